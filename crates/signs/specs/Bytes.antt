@@ -1,0 +1,10 @@
+-- A quoted text as the list of its bytes.
+-- Assumes nothing.
+use mathlib.Core.List.{List, [], _∷_}
+use Prim.Native.Nat.{ℕ}
+use Prim.Native.Char.{code}
+use Prim.Native.String.{String, [] as nothing, _∷_ as _then_}
+
+abbrev pub bytes : String → List ℕ
+bytes nothing = []
+bytes (c then cs) = code c ∷ bytes cs

@@ -1,0 +1,79 @@
+-- A sign as a word: its kind in 8 bits, then two numbers of 28 bits each.
+-- Assumes nothing.
+use mathlib.Core.Bool.{Bool, true, false, cond, _&&_}
+use mathlib.Core.List.{List, [], _∷_}
+use Prim.Native.Nat.{ℕ, _+_, _*_, _/_, _%_}
+use lib.Dec.{eqb, ltb}
+use lib.ListN.{getD}
+use Rattle.signs.specs.declared.sign.Jumped.{Jumped}
+use Rattle.signs.specs.declared.sign.Jumped.the-variants.{Dc, DcCoda, DcFine, Ds, DsCoda, DsFine}
+use Rattle.signs.specs.declared.sign.Sign.{Sign}
+use Rattle.signs.specs.declared.sign.Sign.the-variants.{Block, Time, LeftRepeat, RightRepeat, OpenEnding, CloseEnding, Jump, Segno, Coda, ToCoda, Fine}
+use Rattle.signs.specs.declared.word.Unpacked.{Unpacked}
+use Rattle.signs.specs.declared.word.Unpacked.the-variants.{Packed, Nothing}
+
+abbrev pub jumpKind : Jumped → ℕ
+jumpKind DcCoda = 7
+jumpKind DcFine = 8
+jumpKind DsCoda = 9
+jumpKind DsFine = 10
+jumpKind Dc = 11
+jumpKind Ds = 12
+
+-- a number that 28 bits hold
+abbrev pub fits : ℕ → Bool
+fits n = ltb n 268435456
+
+-- a kind and two numbers in one word; 0, which no sign has, where a number does not fit
+abbrev pub packed : ℕ → ℕ → ℕ → ℕ
+packed kind a b = cond (fits a && fits b) (kind + 256 * a + 68719476736 * b) 0
+
+-- the word of a sign
+abbrev pub wordOf : Sign → ℕ
+wordOf (Block k l) = packed 1 k l
+wordOf (Time m n) = packed 2 m n
+wordOf LeftRepeat = 3
+wordOf RightRepeat = 4
+wordOf OpenEnding = 5
+wordOf CloseEnding = 6
+wordOf (Jump j) = jumpKind j
+wordOf Segno = 13
+wordOf Coda = 14
+wordOf ToCoda = 15
+wordOf Fine = 16
+
+-- the signs that carry no number, at their kinds
+abbrev pub plainSigns : List Unpacked
+plainSigns =
+    Nothing
+    ∷ Nothing
+    ∷ Nothing
+    ∷ Packed LeftRepeat
+    ∷ Packed RightRepeat
+    ∷ Packed OpenEnding
+    ∷ Packed CloseEnding
+    ∷ Packed (Jump DcCoda)
+    ∷ Packed (Jump DcFine)
+    ∷ Packed (Jump DsCoda)
+    ∷ Packed (Jump DsFine)
+    ∷ Packed (Jump Dc)
+    ∷ Packed (Jump Ds)
+    ∷ Packed Segno
+    ∷ Packed Coda
+    ∷ Packed ToCoda
+    ∷ Packed Fine
+    ∷ []
+
+abbrev pub plainSign : ℕ → Unpacked
+plainSign kind = getD plainSigns kind Nothing
+
+-- what a kind and two numbers say
+abbrev pub unpacked : ℕ → ℕ → ℕ → Unpacked
+unpacked kind a b =
+    cond (eqb kind 1) (Packed (Block a b))
+    (cond (eqb kind 2) (Packed (Time a b))
+    (cond (eqb a 0 && eqb b 0) (plainSign kind) Nothing))
+
+-- the sign of a word
+abbrev pub signOf : ℕ → Unpacked
+signOf w = unpacked (w % 256) (w / 256 % 268435456) (w / 68719476736)
