@@ -1,0 +1,34 @@
+-- `signs::next_sign` meets its contract: by the text's length, by where the next sign begins, and by what stands there.
+-- Assumes nothing.
+use mathlib.Core.Path.{sym, ap, _∙_}
+use Rattle.refusals.specs.Limits.{document01}
+use Rattle.signs.specs.Next.{answered}
+use Rattle.signs.proofs.Coming.{coming-end, coming-as, next-long, next-short}
+use borrow.Author.Needs.{needs}
+use Rattle.signs.proofs.next.next_sign.Statement.{statement}
+use Rattle.signs.proofs.next.next_sign.Tie as tie
+
+returns : tie.Need-returns
+returns c = sym (next-long document01 (c .before .before .args .text .now) (c .before .before .args .at) (c .if1 .taken))
+
+returns-2 : tie.Need-returns-2
+returns-2 c = sym (next-short document01 (c .before .before .before .before .args .text .now) (c .before .before .before .before .args .at) (c .before .before .if1 .left) ∙ ap answered (coming-end (c .before .before .before .before .args .text .now) (c .before .before .before .before .args .at) (c .before .past .result) (c .before .past .ensures) (c .if2 .taken)))
+
+returns-3 : tie.Need-returns-3
+returns-3 c = sym (next-short document01 (c .before .before .before .before .before .before .before .args .text .now) (c .before .before .before .before .before .before .before .args .at) (c .before .before .before .before .before .if1 .left) ∙ ap answered (coming-as (c .before .before .before .before .before .before .before .args .text .now) (c .before .before .before .before .before .before .before .args .at) (c .before .before .before .before .past .result) (c .before .before .before .before .past .ensures) (c .before .before .before .if2 .left) _ (sym (c .before .before .sign-at .ensures) ∙ c .enum-told .given .1)))
+
+returns-4 : tie.Need-returns-4
+returns-4 c = sym (next-short document01 (c .before .before .before .before .before .before .before .before .args .text .now) (c .before .before .before .before .before .before .before .before .args .at) (c .before .before .before .before .before .before .if1 .left) ∙ ap answered (coming-as (c .before .before .before .before .before .before .before .before .args .text .now) (c .before .before .before .before .before .before .before .before .args .at) (c .before .before .before .before .before .past .result) (c .before .before .before .before .before .past .ensures) (c .before .before .before .before .if2 .left) _ (sym (c .before .before .before .sign-at .ensures) ∙ c .before .sign .given .1)))
+
+pub next-sign-spec : {M : Type 1} → statement M
+next-sign-spec =
+    tie.close
+    (tie.spec
+    returns
+    (λ c κs. search needs)
+    returns-2
+    (λ c κs. search needs)
+    (λ c. search needs)
+    (λ c. search needs)
+    returns-3
+    returns-4)
