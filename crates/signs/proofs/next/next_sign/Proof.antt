@@ -9,16 +9,16 @@ use Rattle.signs.proofs.next.next_sign.Statement.{statement}
 use Rattle.signs.proofs.next.next_sign.Tie as tie
 
 returns : tie.Need-returns
-returns c = sym (next-long document01 (c .before .before .args .text .now) (c .before .before .args .at) (c .if1 .taken))
+returns c = let a = c .before .before .args in sym (next-long document01 (a .text .now) (a .at) (c .if1 .taken))
 
 returns-2 : tie.Need-returns-2
-returns-2 c = sym (next-short document01 (c .before .before .before .before .args .text .now) (c .before .before .before .before .args .at) (c .before .before .if1 .left) ∙ ap answered (coming-end (c .before .before .before .before .args .text .now) (c .before .before .before .before .args .at) (c .before .past .result) (c .before .past .ensures) (c .if2 .taken)))
+returns-2 c = let a = c .before .before .before .before .args in sym (next-short document01 (a .text .now) (a .at) (c .before .before .if1 .left) ∙ ap answered (coming-end (a .text .now) (a .at) (c .before .past .result) (c .before .past .ensures) (c .if2 .taken)))
 
 returns-3 : tie.Need-returns-3
-returns-3 c = sym (next-short document01 (c .before .before .before .before .before .before .before .args .text .now) (c .before .before .before .before .before .before .before .args .at) (c .before .before .before .before .before .if1 .left) ∙ ap answered (coming-as (c .before .before .before .before .before .before .before .args .text .now) (c .before .before .before .before .before .before .before .args .at) (c .before .before .before .before .past .result) (c .before .before .before .before .past .ensures) (c .before .before .before .if2 .left) _ (sym (c .before .before .sign-at .ensures) ∙ c .enum-told .given .1)))
+returns-3 c = let a = c .before .before .before .before .before .before .before .args in sym (next-short document01 (a .text .now) (a .at) (c .before .before .before .before .before .if1 .left) ∙ ap answered (coming-as (a .text .now) (a .at) (c .before .before .before .before .past .result) (c .before .before .before .before .past .ensures) (c .before .before .before .if2 .left) _ (sym (c .before .before .sign-at .ensures) ∙ c .enum-told .given .1)))
 
 returns-4 : tie.Need-returns-4
-returns-4 c = sym (next-short document01 (c .before .before .before .before .before .before .before .before .args .text .now) (c .before .before .before .before .before .before .before .before .args .at) (c .before .before .before .before .before .before .if1 .left) ∙ ap answered (coming-as (c .before .before .before .before .before .before .before .before .args .text .now) (c .before .before .before .before .before .before .before .before .args .at) (c .before .before .before .before .before .past .result) (c .before .before .before .before .before .past .ensures) (c .before .before .before .before .if2 .left) _ (sym (c .before .before .before .sign-at .ensures) ∙ c .before .sign .given .1)))
+returns-4 c = let a = c .before .before .before .before .before .before .before .before .args in sym (next-short document01 (a .text .now) (a .at) (c .before .before .before .before .before .before .if1 .left) ∙ ap answered (coming-as (a .text .now) (a .at) (c .before .before .before .before .before .past .result) (c .before .before .before .before .before .past .ensures) (c .before .before .before .before .if2 .left) _ (sym (c .before .before .before .sign-at .ensures) ∙ c .before .sign .given .1)))
 
 pub next-sign-spec : {M : Type 1} → statement M
 next-sign-spec =

@@ -32,10 +32,10 @@ small : (c : tie.Else2 Inv-loop μ-loop) → c .before .before .before .before .
 small c = let l = c .before .before .before .before .loop in room (l .n) (l .value) (omega arith) (l .inv .small)
 
 loop-holds : tie.Need-loop-holds Inv-loop μ-loop
-loop-holds c = none-read (c .before .args .text .now) (c .before .args .at)
+loop-holds c = let a = c .before .args in none-read (a .text .now) (a .at)
 
 returns : tie.Need-returns Inv-loop μ-loop
-returns c = let l = c .before .before .before .before .loop in too-many (c .before .before .before .before .before .before .args .text .now) (c .before .before .before .before .before .before .args .at) (l .p) (l .n) (l .value) (l .inv) (yes (c .before)) (c .if2 .taken)
+returns c = let a = c .before .before .before .before .before .before .args in let l = c .before .before .before .before .loop in too-many (a .text .now) (a .at) (l .p) (l .n) (l .value) (l .inv) (yes (c .before)) (c .if2 .taken)
 
 mul-value : tie.Need-mul-value Inv-loop μ-loop
 mul-value c = let s = small c in omega arith
@@ -50,19 +50,19 @@ add-p : tie.Need-add-p Inv-loop μ-loop
 add-p c = let t = digit-there (c .before .before .before .before .before .before .args .text .now) (c .before .before .before .before .loop .p) (yes (c .before)) in omega arith
 
 loop-again : tie.Need-loop-again Inv-loop μ-loop
-loop-again c = let l = c .before .before .before .before .loop in rw (c .before .before .before .peek .ensures) (one-more (c .before .before .before .before .before .before .args .text .now) (c .before .before .before .before .before .before .args .at) (l .p) (l .n) (l .value) (l .inv) (yes (c .before)) (c .if2 .left))
+loop-again c = let a = c .before .before .before .before .before .before .args in let l = c .before .before .before .before .loop in rw (c .before .before .before .peek .ensures) (one-more (a .text .now) (a .at) (l .p) (l .n) (l .value) (l .inv) (yes (c .before)) (c .if2 .left))
 
 returns-2 : tie.Need-returns-2 Inv-loop μ-loop
-returns-2 c = let l = c .before .before .before .before .loop in no-digit (c .before .before .before .before .before .before .args .text .now) (c .before .before .before .before .before .before .args .at) (l .p) (l .n) (l .value) (l .inv) (no-more (c .before)) (c .if3 .taken)
+returns-2 c = let a = c .before .before .before .before .before .before .args in let l = c .before .before .before .before .loop in no-digit (a .text .now) (a .at) (l .p) (l .n) (l .value) (l .inv) (no-more (c .before)) (c .if3 .taken)
 
 returns-3 : tie.Need-returns-3 Inv-loop μ-loop
-returns-3 c = let l = c .before .before .before .before .before .loop in one-digit (c .before .before .before .before .before .before .before .args .text .now) (c .before .before .before .before .before .before .before .args .at) (l .p) (l .n) (l .value) (l .inv) (no-more (c .before .before)) (c .if4 .taken)
+returns-3 c = let a = c .before .before .before .before .before .before .before .args in let l = c .before .before .before .before .before .loop in one-digit (a .text .now) (a .at) (l .p) (l .n) (l .value) (l .inv) (no-more (c .before .before)) (c .if4 .taken)
 
 returns-4 : tie.Need-returns-4 Inv-loop μ-loop
-returns-4 c = let l = c .before .before .before .before .before .before .before .loop in zero-first (c .before .before .before .before .before .before .before .before .before .args .text .now) (c .before .before .before .before .before .before .before .before .before .args .at) (l .p) (l .n) (l .value) (l .inv) (no-more (c .before .before .before .before)) (c .before .before .before .if3 .left) (c .before .before .if4 .left) (sym (c .before .peek2 .ensures) ∙ c .if5 .taken)
+returns-4 c = let a = c .before .before .before .before .before .before .before .before .before .args in let l = c .before .before .before .before .before .before .before .loop in zero-first (a .text .now) (a .at) (l .p) (l .n) (l .value) (l .inv) (no-more (c .before .before .before .before)) (c .before .before .before .if3 .left) (c .before .before .if4 .left) (sym (c .before .peek2 .ensures) ∙ c .if5 .taken)
 
 returns-5 : tie.Need-returns-5 Inv-loop μ-loop
-returns-5 c = let l = c .before .before .before .before .before .before .before .loop in many-digits (c .before .before .before .before .before .before .before .before .before .args .text .now) (c .before .before .before .before .before .before .before .before .before .args .at) (l .p) (l .n) (l .value) (l .inv) (no-more (c .before .before .before .before)) (c .before .before .before .if3 .left) (c .before .before .if4 .left) (λ q. c .if5 .left (c .before .peek2 .ensures ∙ q))
+returns-5 c = let a = c .before .before .before .before .before .before .before .before .before .args in let l = c .before .before .before .before .before .before .before .loop in many-digits (a .text .now) (a .at) (l .p) (l .n) (l .value) (l .inv) (no-more (c .before .before .before .before)) (c .before .before .before .if3 .left) (c .before .before .if4 .left) (λ q. c .if5 .left (c .before .peek2 .ensures ∙ q))
 
 pub read-number-spec : {M : Type 1} → statement M
 read-number-spec =

@@ -28,25 +28,25 @@ second-read : (c : tie.After-l) → numberAt (c .before .before .before .before 
 second-read c = sym (ap (numberAt (c .before .before .before .before .before .before .before .before .before .before .before .before .args .text .now)) (c .before .before .before .past2 .ensures)) ∙ sym (c .before .before .read-number2 .ensures) ∙ c .l .given .1
 
 returns : tie.Need-returns
-returns c = pair-none (c .before .before .before .before .before .args .text .now) (c .before .before .before .before .before .args .at) (sym (ap (numberAt (c .before .before .before .before .before .args .text .now)) (c .before .before .before .past .ensures)) ∙ sym (c .before .before .read-number .ensures) ∙ c .enum-told .given .1)
+returns c = let a = c .before .before .before .before .before .args in pair-none (a .text .now) (a .at) (sym (ap (numberAt (a .text .now)) (c .before .before .before .past .ensures)) ∙ sym (c .before .before .read-number .ensures) ∙ c .enum-told .given .1)
 
 returns-2 : tie.Need-returns-2
-returns-2 c = pair-no-comma (c .before .before .before .before .before .before .before .before .args .text .now) (c .before .before .before .before .before .before .before .before .args .at) (c .before .before .before .k .given .0 .0) (c .before .before .before .k .given .0 .1 .0) (first-read (c .before .before .before)) (λ q. c .if1 .taken (c .before .peek .ensures ∙ q))
+returns-2 c = let a = c .before .before .before .before .before .before .before .before .args in pair-no-comma (a .text .now) (a .at) (c .before .before .before .k .given .0 .0) (c .before .before .before .k .given .0 .1 .0) (first-read (c .before .before .before)) (λ q. c .if1 .taken (c .before .peek .ensures ∙ q))
 
 add-past : tie.Need-add-past
 add-past c = let i = comma-there c in omega arith
 
 returns-3 : tie.Need-returns-3
-returns-3 c = pair-second (c .before .before .before .before .before .before .before .before .before .before .before .before .args .text .now) (c .before .before .before .before .before .before .before .before .before .before .before .before .args .at) (c .before .before .before .before .before .before .before .k .given .0 .0) (c .before .before .before .before .before .before .before .k .given .0 .1 .0) (first-read (c .before .before .before .before .before .before .before)) (comma (c .before .before .before .before)) Nothing (sym (ap (numberAt (c .before .before .before .before .before .before .before .before .before .before .before .before .args .text .now)) (c .before .before .before .past2 .ensures)) ∙ sym (c .before .before .read-number2 .ensures) ∙ c .enum-told2 .given .1)
+returns-3 c = let a = c .before .before .before .before .before .before .before .before .before .before .before .before .args in pair-second (a .text .now) (a .at) (c .before .before .before .before .before .before .before .k .given .0 .0) (c .before .before .before .before .before .before .before .k .given .0 .1 .0) (first-read (c .before .before .before .before .before .before .before)) (comma (c .before .before .before .before)) Nothing (sym (ap (numberAt (a .text .now)) (c .before .before .before .past2 .ensures)) ∙ sym (c .before .before .read-number2 .ensures) ∙ c .enum-told2 .given .1)
 
 returns-4 : tie.Need-returns-4
-returns-4 c = pair-open (c .before .before .before .before .before .before .before .before .before .before .before .before .before .before .before .args .text .now) (c .before .before .before .before .before .before .before .before .before .before .before .before .before .before .before .args .at) (c .before .before .before .before .before .before .before .before .before .before .k .given .0 .0) (c .before .before .before .before .before .before .before .before .before .before .k .given .0 .1 .0) (first-read (c .before .before .before .before .before .before .before .before .before .before)) (comma (c .before .before .before .before .before .before .before)) (c .before .before .before .l .given .0 .0) (c .before .before .before .l .given .0 .1 .0) (second-read (c .before .before .before)) (λ q. c .if2 .taken (c .before .peek2 .ensures ∙ q))
+returns-4 c = let a = c .before .before .before .before .before .before .before .before .before .before .before .before .before .before .before .args in pair-open (a .text .now) (a .at) (c .before .before .before .before .before .before .before .before .before .before .k .given .0 .0) (c .before .before .before .before .before .before .before .before .before .before .k .given .0 .1 .0) (first-read (c .before .before .before .before .before .before .before .before .before .before)) (comma (c .before .before .before .before .before .before .before)) (c .before .before .before .l .given .0 .0) (c .before .before .before .l .given .0 .1 .0) (second-read (c .before .before .before)) (λ q. c .if2 .taken (c .before .peek2 .ensures ∙ q))
 
 add-t8 : tie.Need-add-t8
 add-t8 c = let i = there (c .before .before .before .before .before .before .before .before .before .before .before .before .before .before .before .args .text .now) (c .before .before .before .l .given .0 .1 .0) (λ z. omega (arith, c .before .peek2 .ensures, c .if2 .left)) in omega arith
 
 returns-5 : tie.Need-returns-5
-returns-5 c = pair-closed (c .before .before .before .before .before .before .before .before .before .before .before .before .before .before .before .args .text .now) (c .before .before .before .before .before .before .before .before .before .before .before .before .before .before .before .args .at) (c .before .before .before .before .before .before .before .before .before .before .k .given .0 .0) (c .before .before .before .before .before .before .before .before .before .before .k .given .0 .1 .0) (first-read (c .before .before .before .before .before .before .before .before .before .before)) (comma (c .before .before .before .before .before .before .before)) (c .before .before .before .l .given .0 .0) (c .before .before .before .l .given .0 .1 .0) (second-read (c .before .before .before)) (sym (c .before .peek2 .ensures) ∙ c .if2 .left)
+returns-5 c = let a = c .before .before .before .before .before .before .before .before .before .before .before .before .before .before .before .args in pair-closed (a .text .now) (a .at) (c .before .before .before .before .before .before .before .before .before .before .k .given .0 .0) (c .before .before .before .before .before .before .before .before .before .before .k .given .0 .1 .0) (first-read (c .before .before .before .before .before .before .before .before .before .before)) (comma (c .before .before .before .before .before .before .before)) (c .before .before .before .l .given .0 .0) (c .before .before .before .l .given .0 .1 .0) (second-read (c .before .before .before)) (sym (c .before .peek2 .ensures) ∙ c .if2 .left)
 
 pub read-pair-spec : {M : Type 1} → statement M
 read-pair-spec =

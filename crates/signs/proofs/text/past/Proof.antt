@@ -6,6 +6,7 @@ use native.Mathlib.Omega.{arith}
 use borrow.Author.Tests.{not-true, not-false}
 use lib.ListN.{length, drop-of-length-le}
 use Rattle.signs.specs.Text.{front, gap}
+use Rattle.signs.specs.Text.{past as pastGap}
 use Rattle.signs.proofs.Gaps.{past-more, past-here}
 use borrow.Author.Needs.{needs}
 use Rattle.signs.proofs.text.past.Statement.{statement}
@@ -18,13 +19,13 @@ abbrev μ-loop : tie.MeasureT-loop
 μ-loop text at inside i₀ i = length text - i
 
 returns : tie.Need-returns Inv-loop μ-loop
-returns c = sym (c .before .before .before .before .loop .inv ∙ past-here (c .before .before .before .before .before .before .args .inside) (c .before .before .before .before .before .before .args .text .now) (c .before .before .before .before .loop .i) (sym (c .before .is-gap .ensures) ∙ not-true _ (c .if1 .taken)))
+returns c = let a = c .before .before .before .before .before .before .args in sym (c .before .before .before .before .loop .inv ∙ past-here (a .inside) (a .text .now) (c .before .before .before .before .loop .i) (sym (c .before .is-gap .ensures) ∙ not-true _ (c .if1 .taken)))
 
 loop-again : tie.Need-loop-again Inv-loop μ-loop
-loop-again c = c .before .before .before .before .loop .inv ∙ past-more (c .before .before .before .before .before .before .args .inside) (c .before .before .before .before .before .before .args .text .now) (c .before .before .before .before .loop .i) (sym (c .before .is-gap .ensures) ∙ not-false _ (c .if1 .left))
+loop-again c = let a = c .before .before .before .before .before .before .args in c .before .before .before .before .loop .inv ∙ past-more (a .inside) (a .text .now) (c .before .before .before .before .loop .i) (sym (c .before .is-gap .ensures) ∙ not-false _ (c .if1 .left))
 
 returns-2 : tie.Need-returns-2 Inv-loop μ-loop
-returns-2 c = omega (arith, c .before .loop .inv, ap (front (gap (c .before .before .before .args .inside))) (drop-of-length-le (c .before .before .before .args .text .now) (c .loop-test .left)))
+returns-2 c = let a = c .before .before .before .args in omega (arith, c .before .loop .inv, ap (front (gap (a .inside))) (drop-of-length-le (a .text .now) (c .loop-test .left)))
 
 pub past-spec : {M : Type 1} → statement M
 past-spec =
