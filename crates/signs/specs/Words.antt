@@ -20,27 +20,40 @@ jumpKind DsFine = 10
 jumpKind Dc = 11
 jumpKind Ds = 12
 
+-- a kind and two numbers
+pub record Parts : Type 0 where
+  pub kind : ℕ
+  pub first : ℕ
+  pub second : ℕ
+
+abbrev pub parts : ℕ → ℕ → ℕ → Parts
+parts kind a b = record { kind = kind; first = a; second = b }
+
+-- the kind of a sign and the numbers that it carries, 0 where it carries none
+abbrev pub partsOf : Sign → Parts
+partsOf (Block k l) = parts 1 k l
+partsOf (Time m n) = parts 2 m n
+partsOf LeftRepeat = parts 3 0 0
+partsOf RightRepeat = parts 4 0 0
+partsOf OpenEnding = parts 5 0 0
+partsOf CloseEnding = parts 6 0 0
+partsOf (Jump j) = parts (jumpKind j) 0 0
+partsOf Segno = parts 13 0 0
+partsOf Coda = parts 14 0 0
+partsOf ToCoda = parts 15 0 0
+partsOf Fine = parts 16 0 0
+
 -- a number that 28 bits hold
 abbrev pub fits : ℕ → Bool
 fits n = ltb n 268435456
 
 -- a kind and two numbers in one word; 0, which no sign has, where a number does not fit
-abbrev pub packed : ℕ → ℕ → ℕ → ℕ
-packed kind a b = cond (fits a && fits b) (kind + 256 * a + 68719476736 * b) 0
+abbrev pub packed : Parts → ℕ
+packed p = cond (fits (p .first) && fits (p .second)) (p .kind + 256 * p .first + 68719476736 * p .second) 0
 
 -- the word of a sign
 abbrev pub wordOf : Sign → ℕ
-wordOf (Block k l) = packed 1 k l
-wordOf (Time m n) = packed 2 m n
-wordOf LeftRepeat = 3
-wordOf RightRepeat = 4
-wordOf OpenEnding = 5
-wordOf CloseEnding = 6
-wordOf (Jump j) = jumpKind j
-wordOf Segno = 13
-wordOf Coda = 14
-wordOf ToCoda = 15
-wordOf Fine = 16
+wordOf s = packed (partsOf s)
 
 -- the signs that carry no number, at their kinds
 abbrev pub plainSigns : List Unpacked

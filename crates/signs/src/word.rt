@@ -1,7 +1,7 @@
 // A sign as a word of 64 bits: its kind in 8 bits, then two numbers of 28 bits each.
 ghost use mathlib.Core.Path.{_≡_};
 ghost use Prim.Native.Nat.{_≤_};
-ghost use Rattle.signs.specs.Words.{jumpKind, plainSign, wordOf, signOf};
+ghost use Rattle.signs.specs.Words.{jumpKind, parts, plainSign, wordOf, signOf};
 ghost use Rattle.signs.specs.Words.{packed as packedWord};
 use crate::sign::Jumped;
 use crate::sign::Sign;
@@ -46,7 +46,7 @@ fn jump_kind(j: Jumped) -> u64
 
 fn packed(kind: u64, a: u64, b: u64) -> u64
     requires { ⌜ kind ≤ 255 ⌝ }
-    ensures { λ r. ⌜ r ≡ packedWord kind a b ⌝ }
+    ensures { λ r. ⌜ r ≡ packedWord (parts kind a b) ⌝ }
 {
     if 268435456 <= a {
         return 0;
