@@ -65,7 +65,7 @@ pub fn read_signs(text: &[u8], out: &mut [u64]) -> Reading
     ensures answer { λ r. ⌜ r ≡ readingOf document01 (now (text .entry)) (length (now (out .entry))) ⌝ }
     ensures buffer { λ _. ⌜ now (out .exit) ≡ writtenOf document01 (now (text .entry)) (now (out .entry)) ⌝ }
 {
-    if refusals::TEXT_BYTES < text.len() {
+    if refusals::BYTES < text.len() {
         return Reading::Refused(Refusal::TextTooLong);
     }
     let mut words = [0u64; SIGNS];

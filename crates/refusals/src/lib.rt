@@ -1,16 +1,18 @@
 // Every way to be refused, and document 01's number and place for each.
+mod limits;
+
+pub use limits::BEAT;
+pub use limits::BLOCKS;
+pub use limits::BYTES;
+pub use limits::INSTRUCTIONS;
+pub use limits::LABELS;
+pub use limits::LOOPS;
+pub use limits::NUMBER;
+pub use limits::SIGNS;
+pub use limits::TIMES;
 ghost use mathlib.Core.Path.{_≡_};
 ghost use Rattle.refusals.specs.Limits.{document01};
 ghost use Rattle.refusals.specs.Refusals.{numberOf, placeOf};
-
-// The limits that a refusal names as its place.
-pub const TEXT_BYTES: usize = 16384;
-
-pub const SIGNS: usize = 1024;
-
-pub const LOOPS: u64 = 64;
-
-pub const BLOCKS_PLAYED: u64 = 65535;
 
 // A case for each way to be refused; two of them have the number 5.
 pub enum Refusal {
@@ -68,14 +70,14 @@ pub fn place(r: Refusal) -> u64
     ensures { λ p. ⌜ p ≡ placeOf document01 r ⌝ }
 {
     match r {
-        Refusal::TextTooLong => TEXT_BYTES as u64,
+        Refusal::TextTooLong => BYTES as u64,
         Refusal::Unreadable(byte) => byte,
         Refusal::TooManySigns => SIGNS as u64,
         Refusal::NoScore(sign) => sign,
         Refusal::BadNumber(sign) => sign,
         Refusal::TooDeep(sign) => sign,
-        Refusal::TooManyLoops => LOOPS,
-        Refusal::TooManyPlayed => BLOCKS_PLAYED,
+        Refusal::TooManyLoops => LOOPS as u64,
+        Refusal::TooManyPlayed => BLOCKS as u64,
         Refusal::NoRoom(needed) => needed,
         Refusal::PastTotal(total) => total,
         Refusal::BadListing(instruction) => instruction,

@@ -19,7 +19,7 @@ pub enum Next {
 pub fn next_sign(text: &[u8], at: usize) -> Next
     ensures { λ r. ⌜ r ≡ nextSign document01 (now (text .entry)) at ⌝ }
 {
-    if refusals::TEXT_BYTES < text.len() {
+    if refusals::BYTES < text.len() {
         return Next::Refused(Refusal::TextTooLong);
     }
     let begin = past(text, at, false);

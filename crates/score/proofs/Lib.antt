@@ -1,0 +1,15 @@
+pub mod Alphabet
+pub mod Between
+pub mod Bound
+pub mod Calls
+pub mod Complete
+pub mod Machine
+pub mod OneAnswer
+pub mod Reader
+pub mod Right
+pub mod RightMachine
+pub mod Runs
+pub mod Scores
+pub mod Sound
+pub mod Viable
+pub mod Written

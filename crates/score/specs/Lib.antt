@@ -1,0 +1,9 @@
+pub mod Calls
+pub mod Played
+pub mod Readings
+pub mod Scores
+pub mod Shapes
+pub mod Spelling
+pub mod Steps
+pub mod Sums
+pub mod Trees
