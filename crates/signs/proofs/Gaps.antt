@@ -9,7 +9,7 @@ use native.Mathlib.Numerals.{add-one}
 use native.Mathlib.Omega.{arith}
 use borrow.Author.Tests.{ne-eqb}
 use lib.Dec.{eqb}
-use lib.ListN.{length, getD, drop, length-drop}
+use lib.ListN.{length, getD, drop}
 use Rattle.signs.specs.Text.{front, gap, past, starts}
 
 pub clash : {A : Type 0} → _≡_ {A = ℕ} 0 1 → A
@@ -25,18 +25,21 @@ there [] i h = absurd (h refl)
 there (b ∷ bs) zero h = omega arith
 there (b ∷ bs) (suc i) h = omega (arith, there bs i h)
 
-gap-zero : (inside : Bool) → gap inside 0 ≡ false
-gap-zero true = refl
-gap-zero false = refl
-
+-- a test that byte 0 does not pass, at the front of a list from place i on
 module _ (f : ℕ → Bool) (z : f 0 ≡ false) where
-  front-here : (text : List ℕ) (i : ℕ) → front f (drop i text) ≡ cond (f (getD text i 0)) (suc (front f (drop (suc i) text))) 0
+  front-here : (l : List ℕ) (i : ℕ) → front f (drop i l) ≡ cond (f (getD l i 0)) (suc (front f (drop (suc i) l))) 0
   front-here [] zero = rw z
   front-here [] (suc i) = rw z
   front-here (b ∷ bs) zero = refl
   front-here (b ∷ bs) (suc i) = front-here bs i
 
-front-le : (f : ℕ → Bool) (l : List ℕ) → front f l ≤ length l
+  pub front-more : (l : List ℕ) (i : ℕ) → f (getD l i 0) ≡ true → i + front f (drop i l) ≡ i + 1 + front f (drop (i + 1) l)
+  front-more l i e = rw (front-here l i, e, add-one) (omega arith)
+
+  pub front-stop : (l : List ℕ) (i : ℕ) → f (getD l i 0) ≡ false → i + front f (drop i l) ≡ i
+  front-stop l i e = rw (front-here l i, e) (omega arith)
+
+pub front-le : (f : ℕ → Bool) (l : List ℕ) → front f l ≤ length l
 front-le f [] = omega arith
 front-le f (b ∷ bs) = go (f b) (front-le f bs)
   where
@@ -44,15 +47,16 @@ front-le f (b ∷ bs) = go (f b) (front-le f bs)
     go true h = omega arith
     go false h = omega arith
 
+gap-zero : (inside : Bool) → gap inside 0 ≡ false
+gap-zero true = refl
+gap-zero false = refl
+
 module _ (inside : Bool) (text : List ℕ) where
   pub past-more : (i : ℕ) → gap inside (getD text i 0) ≡ true → past inside text i ≡ past inside text (i + 1)
-  past-more i e = rw (front-here (gap inside) (gap-zero inside) text i, e, add-one) (omega arith)
+  past-more i e = front-more (gap inside) (gap-zero inside) text i e
 
   pub past-here : (i : ℕ) → gap inside (getD text i 0) ≡ false → past inside text i ≡ i
-  past-here i e = rw (front-here (gap inside) (gap-zero inside) text i, e) (omega arith)
-
-  pub past-room : (i : ℕ) → i ≤ length text → past inside text i ≤ length text
-  past-room i h = omega (arith, front-le (gap inside) (drop i text), length-drop i text)
+  past-here i e = front-stop (gap inside) (gap-zero inside) text i e
 
 -- letters from place j on against a text from place i on
 starts-step : (w text : List ℕ) (j i : ℕ) → (getD w j 0 ≡ 0 → ⊥)

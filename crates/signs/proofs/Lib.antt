@@ -5,3 +5,4 @@ pub mod Longest
 pub mod Scan
 pub mod Finish
 pub mod Coming
+pub mod Packing

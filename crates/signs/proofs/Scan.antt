@@ -22,22 +22,26 @@ use Rattle.signs.proofs.Table.{both-left, both-right, upto, below}
 use Rattle.signs.proofs.Longest.{orElse, first, longest-first}
 
 -- bytes other than 0
-abbrev proper : List ℕ → Bool
+abbrev pub proper : List ℕ → Bool
 proper [] = true
 proper (b ∷ bs) = leb 1 b && (leb b 255 && proper bs)
 
-proper-range : (b : ℕ) (bs : List ℕ) → T (proper (b ∷ bs)) → (1 ≤ b) × (b ≤ 255) × T (proper bs)
+pub proper-range : (b : ℕ) (bs : List ℕ) → T (proper (b ∷ bs)) → (1 ≤ b) × (b ≤ 255) × T (proper bs)
 proper-range b bs t =
     let r = both-right (leb 1 b) (leb b 255 && proper bs) t in
     (leb→le 1 b (both-left (leb 1 b) (leb b 255 && proper bs) t), leb→le b 255 (both-left (leb b 255) (proper bs) r), both-right (leb b 255) (proper bs) r)
 
-letters-proper : (i : ℕ) → i < 16 → T (proper (lettersOf i))
+pub letters-proper : (i : ℕ) → i < 16 → T (proper (lettersOf i))
 unfolding spellings
 letters-proper i h = below 16 (λ i. proper (lettersOf i)) tt i h
 
 letters-some : (i : ℕ) → i < 16 → 1 ≤ length (lettersOf i)
 unfolding spellings
 letters-some i h = leb→le 1 (length (lettersOf i)) (below 16 (λ i. leb 1 (length (lettersOf i))) tt i h)
+
+pub letters-short : (i : ℕ) → i < 16 → length (lettersOf i) ≤ 7
+unfolding spellings
+letters-short i h = leb→le (length (lettersOf i)) 7 (below 16 (λ i. leb (length (lettersOf i)) 7) tt i h)
 
 sixteen : length spellings ≡ 16
 unfolding spellings

@@ -1,0 +1,4 @@
+pub mod Lettering
+pub mod Decimal
+pub mod Wording
+pub mod Lining

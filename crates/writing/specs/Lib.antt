@@ -1,0 +1,4 @@
+pub mod Spell
+pub mod Letters
+pub mod Laid
+pub mod Writing
