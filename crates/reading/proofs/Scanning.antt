@@ -1,7 +1,6 @@
 -- The signs of a text, one step at a time: what the loop that reads them knows.
 -- Assumes nothing.
 use mathlib.Core.Path.{_≡_, refl, sym, ap, _∙_}
-use mathlib.Core.Bool.{Bool, true, false}
 use mathlib.Core.List.{List, [], _∷_, _++_, map}
 use mathlib.Core.Logic.{⊎-elim}
 use Prim.Native.Nat.{ℕ, zero, suc, _+_, _-_, _≤_, _<_}
@@ -26,7 +25,7 @@ use Rattle.signs.proofs.Coming.{coming-reach}
 use Rattle.signs.proofs.Gaps.{clash}
 use Rattle.reading.specs.declared.Reading.{Reading}
 use Rattle.reading.specs.declared.Reading.the-variants.{Signs, Refused}
-use Rattle.reading.specs.Reading.{Placed, Scanned, onward, scanFrom, scanned, signsOf, countedBy, counted, roomFor, readingOf, writtenBy, writtenOf}
+use Rattle.reading.specs.Reading.{onward, scanFrom, scanned, signsOf, countedBy, counted, roomFor, readingOf, writtenBy, writtenOf}
 
 -- more than the bytes left is enough, and then it does not matter how much
 module _ (text : List ℕ) where

@@ -1,11 +1,11 @@
 -- What comes next in a text: by where it begins and by what stands there; a sign ends past its beginning, and in the text.
 -- Assumes nothing.
-use mathlib.Core.Path.{_≡_, refl, sym, ap, _∙_}
+use mathlib.Core.Path.{_≡_, refl}
 use mathlib.Core.Bool.{Bool, true, false, cond, _&&_}
 use mathlib.Core.List.{List, [], _∷_}
 use Prim.Native.Nat.{ℕ, _+_, _≤_, _<_}
 use native.Mathlib.Omega.{arith}
-use borrow.Author.Tests.{eqb-true, ltb-true, le-ltb, lt-ltb}
+use borrow.Author.Tests.{eqb-true, le-ltb, lt-ltb}
 use lib.Dec.{T, eqb, leb, ltb, leb→le}
 use lib.ListN.{length, getD, drop, length-drop}
 use Rattle.refusals.specs.declared.Refusal.the-variants.{TextTooLong}
@@ -21,12 +21,12 @@ use Rattle.signs.specs.declared.next.Next.the-variants.{Refused}
 use Rattle.signs.specs.Text.{past, starts}
 use Rattle.signs.specs.Numbers.{numberAt, closed, parted, pairAt}
 use Rattle.signs.specs.Spellings.{Meaning, alone, numbered, Spelling, spellings, made, finishedAs, spelled, longest}
-use Rattle.signs.specs.Next.{Coming, sign, nothing, unreadable, comingAs, comingAt, coming, answered, nextSign}
+use Rattle.signs.specs.Next.{sign, nothing, comingAs, coming, answered, nextSign}
 use Rattle.signs.proofs.Gaps.{clash, starts-length}
 use Rattle.signs.proofs.Gaps.{there as inside}
 use Rattle.signs.proofs.Digits.{number-reach}
 use Rattle.signs.proofs.Table.{both-left, both-right}
-use Rattle.signs.proofs.Longest.{In, here, there, Comes, longest-stands}
+use Rattle.signs.proofs.Longest.{In, here, there, longest-stands}
 
 -- the next sign, by the place where it begins
 module _ (text : List ℕ) (at begin : ℕ) (e : begin ≡ past false text at) where

@@ -1,7 +1,7 @@
 -- A spelling's meaning by its number: the signs that carry no number stand at their kinds.
 -- Assumes nothing.
 use mathlib.Core.Path.{_≡_, refl, sym, ap, _∙_}
-use mathlib.Core.Bool.{Bool, true, false, _||_}
+use mathlib.Core.Bool.{_||_}
 use mathlib.Core.List.{List, [], _∷_, map}
 use Prim.Native.Nat.{ℕ, zero, suc, _+_, _≤_, _<_}
 use native.Mathlib.Nat.{not-suc-le-zero, le-of-suc-le-suc}
@@ -18,9 +18,9 @@ use Rattle.signs.specs.declared.word.Unpacked.{Unpacked}
 use Rattle.signs.specs.declared.word.Unpacked.the-variants.{Packed, Nothing}
 use Rattle.signs.specs.Numbers.{pairAt}
 use Rattle.signs.specs.Words.{plainSigns, plainSign}
-use Rattle.signs.specs.Spellings.{Meaning, alone, numbered, Spelling, spellings, spelling, made, finishedAs, finishedBy}
+use Rattle.signs.specs.Spellings.{Meaning, alone, numbered, Spelling, spellings, spelling, made, finishedBy}
 use Rattle.signs.proofs.Gaps.{clash}
-use Rattle.signs.proofs.Table.{upto, below}
+use Rattle.signs.proofs.Table.{below}
 use Rattle.signs.proofs.Longest.{simple}
 
 abbrev packedAs : Meaning → Unpacked
@@ -47,6 +47,13 @@ simple-at : (i : ℕ) → 2 ≤ i → i < 16 → T (simple (spelling i .means))
 unfolding spellings
 simple-at i l h = rw (lt-leb i 1 l) at (below 16 (λ i. leb i 1 || simple (spelling i .means)) tt i h)
 
+pub means-alone : (i : ℕ) → i < 16 → (s : Sign) → plainSign (i + 1) ≡ Packed s → spelling i .means ≡ alone s
+means-alone i h s e = go (spelling i .means) (sym (plain-at i h) ∙ e)
+  where
+    go : (m : Meaning) → packedAs m ≡ Packed s → m ≡ alone s
+    go (alone t) f = let q : t ≡ s = cc in ap alone q
+    go (numbered g) f = clash (cc)
+
 module _ (text : List ℕ) (at i : ℕ) where
   pub finish-block : i ≡ 0 → (r : Pair) → pairAt text at ≡ r → made Block r ≡ finishedBy text at i
   unfolding spellings
@@ -56,12 +63,8 @@ module _ (text : List ℕ) (at i : ℕ) where
   unfolding spellings
   finish-time e r f = rw (e, f)
 
-  finish-as : (m : Meaning) (s : Sign) → packedAs m ≡ Packed s → Stands s at ≡ finishedAs text at m
-  finish-as (alone t) s e = let q : t ≡ s = cc in rw q
-  finish-as (numbered f) s e = clash (cc)
-
   pub finish-plain : i < 16 → (s : Sign) → plainSign (i + 1) ≡ Packed s → Stands s at ≡ finishedBy text at i
-  finish-plain h s e = finish-as (spelling i .means) s (sym (plain-at i h) ∙ e)
+  finish-plain h s e = rw (means-alone i h s e)
 
   none-packed : (m : Meaning) → T (simple m) → packedAs m ≡ Nothing → ⊥
   none-packed (alone t) u e = clash (cc)

@@ -5,10 +5,9 @@ use mathlib.Core.Bool.{Bool, true, false, cond, _&&_}
 use mathlib.Core.List.{List, [], _∷_}
 use mathlib.Core.Logic.{_↔_}
 use Prim.Native.Nat.{ℕ, zero, suc, _+_, _*_, _/_, _%_, _^_, _≤_, _<_}
-use native.Mathlib.Nat.{not-suc-le-zero}
 use native.Mathlib.Omega.{arith}
-use borrow.Author.Tests.{ltb-true, lt-ltb, eqb-true, eq-eqb, ne-eqb}
-use lib.Dec.{eqb, ltb}
+use borrow.Author.Tests.{ltb-true, lt-ltb, eqb-true, eqb-false}
+use lib.Dec.{eqb}
 use lib.ListN.{getD}
 use Rattle.signs.specs.declared.sign.Jumped.{Jumped}
 use Rattle.signs.specs.declared.sign.Jumped.the-variants.{Dc, DcCoda, DcFine, Ds, DsCoda, DsFine}
@@ -16,8 +15,8 @@ use Rattle.signs.specs.declared.sign.Sign.{Sign}
 use Rattle.signs.specs.declared.sign.Sign.the-variants.{Block, Time, LeftRepeat, RightRepeat, OpenEnding, CloseEnding, Jump, Segno, Coda, ToCoda, Fine}
 use Rattle.signs.specs.declared.word.Unpacked.{Unpacked}
 use Rattle.signs.specs.declared.word.Unpacked.the-variants.{Packed, Nothing}
-use Rattle.signs.specs.Words.{Parts, parts, partsOf, fits, packed, wordOf, plainSigns, plainSign, unpacked, signOf}
-use Rattle.signs.proofs.Gaps.{clash, both-true}
+use Rattle.signs.specs.Words.{parts, partsOf, fits, packed, wordOf, plainSigns, plainSign, unpacked, signOf}
+use Rattle.signs.proofs.Gaps.{clash}
 
 -- each sign of the table has its place as its kind, and no number
 abbrev Kinds : ℕ → List Unpacked → Type 0
@@ -95,8 +94,29 @@ parts-again Coda = refl
 parts-again ToCoda = refl
 parts-again Fine = refl
 
-packs : (p : Parts) → (fits (p .first) && fits (p .second) ≡ true) → packed p ≡ p .kind + 256 * p .first + 68719476736 * p .second
-packs p e = rw e
+-- a sign is a block or a time with its numbers, or stands at its kind
+pub data Which (s : Sign) : Type 0 where
+  a-block : (k l : ℕ) → s ≡ Block k l → Which s
+  a-time : (m n : ℕ) → s ≡ Time m n → Which s
+  plain : 2 < partsOf s .kind → plainSign (partsOf s .kind) ≡ Packed s → Which s
+
+which-by : (s : Sign) (kind a b : ℕ) → kind ≡ partsOf s .kind → unpacked kind a b ≡ Packed s → Which s
+which-by s kind a b k e = one (eqb kind 1) refl e
+  where
+    zeros : (x : Bool) → eqb kind 1 ≡ false → eqb kind 2 ≡ false → cond x (plainSign kind) Nothing ≡ Packed s → Which s
+    zeros true p q f = let r = kind-range s in plain (omega (arith, k, eqb-false kind 1 p, eqb-false kind 2 q)) (rw k at f)
+    zeros false p q f = clash (cc)
+
+    two : (t : Bool) → eqb kind 1 ≡ false → eqb kind 2 ≡ t → cond t (Packed (Time a b)) (cond (eqb a 0 && eqb b 0) (plainSign kind) Nothing) ≡ Packed s → Which s
+    two true p q f = a-time a b (cc)
+    two false p q f = zeros (eqb a 0 && eqb b 0) p q f
+
+    one : (t : Bool) → eqb kind 1 ≡ t → cond t (Packed (Block a b)) (cond (eqb kind 2) (Packed (Time a b)) (cond (eqb a 0 && eqb b 0) (plainSign kind) Nothing)) ≡ Packed s → Which s
+    one true p f = a-block a b (cc)
+    one false p f = two (eqb kind 2) p refl f
+
+pub which : (s : Sign) → Which s
+which s = which-by s (partsOf s .kind) (partsOf s .first) (partsOf s .second) refl (parts-again s)
 
 -- a word of 64 bits that is a sign is that sign's word
 pub word-again : (w : ℕ) → w < 2 ^ 64 → (s : Sign) → signOf w ≡ Packed s → wordOf s ≡ w

@@ -1,10 +1,9 @@
 -- The steps of the scan over the spellings: a letter agrees, a letter differs, the letters end.
 -- Assumes nothing.
 use mathlib.Core.Path.{_≡_, refl, sym, ap, _∙_}
-use mathlib.Core.Bool.{Bool, true, false, cond, _&&_}
+use mathlib.Core.Bool.{Bool, true, false, _&&_}
 use mathlib.Core.List.{List, [], _∷_}
 use Prim.Native.Nat.{ℕ, zero, suc, _+_, _*_, _/_, _%_, _≤_, _<_}
-use native.Mathlib.Nat.{add-zero}
 use native.Mathlib.Numerals.{add-one}
 use native.Mathlib.Omega.{arith}
 use borrow.Author.Tests.{eq-eqb, ne-eqb}
@@ -16,9 +15,9 @@ use Rattle.signs.specs.declared.sign.Sign.the-variants.{Fine}
 use Rattle.signs.specs.declared.spelling.Standing.{Standing}
 use Rattle.signs.specs.declared.spelling.Standing.the-variants.{Stands, Nothing}
 use Rattle.signs.specs.Text.{starts}
-use Rattle.signs.specs.Spellings.{Spelling, alone, spells, spellings, spelling, spelled, lettersOf, letterOf, finishedBy, longest, asNumber}
+use Rattle.signs.specs.Spellings.{alone, spells, spellings, spelling, spelled, lettersOf, letterOf, finishedBy, longest, asNumber}
 use Rattle.signs.proofs.Gaps.{starts-here, there}
-use Rattle.signs.proofs.Table.{both-left, both-right, upto, below}
+use Rattle.signs.proofs.Table.{both-left, both-right, below}
 use Rattle.signs.proofs.Longest.{orElse, first, longest-first}
 
 -- bytes other than 0
@@ -35,7 +34,7 @@ pub letters-proper : (i : ℕ) → i < 16 → T (proper (lettersOf i))
 unfolding spellings
 letters-proper i h = below 16 (λ i. proper (lettersOf i)) tt i h
 
-letters-some : (i : ℕ) → i < 16 → 1 ≤ length (lettersOf i)
+pub letters-some : (i : ℕ) → i < 16 → 1 ≤ length (lettersOf i)
 unfolding spellings
 letters-some i h = leb→le 1 (length (lettersOf i)) (below 16 (λ i. leb 1 (length (lettersOf i))) tt i h)
 

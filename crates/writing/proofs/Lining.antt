@@ -2,7 +2,7 @@
 -- Assumes nothing.
 use mathlib.Core.Path.{_≡_, refl, sym, ap, _∙_}
 use mathlib.Core.Bool.{Bool, true, false, cond, _&&_}
-use mathlib.Core.List.{List, [], _∷_, _++_, map, append-assoc, append-nil}
+use mathlib.Core.List.{List, [], _∷_, _++_, map, append-assoc}
 use Prim.Native.Nat.{ℕ, zero, suc, _+_, _*_, _-_, _/_, _%_, _≤_, _<_}
 use native.Mathlib.Nat.{not-suc-le-zero, le-of-suc-le-suc}
 use native.Mathlib.Numerals.{add-one}
@@ -10,7 +10,7 @@ use native.Mathlib.Omega.{arith}
 use borrow.Author.Tests.{lt-ltb, le-ltb, lt-leb, ltb-true, ltb-false, ne-eqb}
 use lib.Dec.{T, eqb, ltb, leb, leb→le}
 use lib.ListN.{length, getD, drop, length-append, drop-of-length-le}
-use lib.Seq.{sets, sets-eq, drop-cons}
+use lib.Seq.{sets-eq, drop-cons}
 use Rattle.refusals.specs.declared.Refusal.the-variants.{TextTooLong, TooManySigns, NoRoom, Unwritable}
 use Rattle.refusals.specs.Limits.{Limits, document01}
 use Rattle.signs.specs.declared.sign.Sign.{Sign}
@@ -26,11 +26,11 @@ use Rattle.writing.specs.declared.Written.the-variants.{Bytes, Refused}
 use Rattle.writing.specs.Laid.{Laid}
 use Rattle.writing.specs.Spell.{pairText, digits, spell, spaced, textOf}
 use Rattle.writing.specs.Writing.{bothSmall, small, smallIn, writable, signIn, signsIn, entryOf, fitted, writingOf, leftBy, leftOf, spellingOf, spelledOf}
-use Rattle.writing.proofs.Lettering.{laid-join, laid-length}
+use Rattle.writing.proofs.Lettering.{laid-join}
 use Rattle.writing.proofs.Wording.{writes, few-digits, spelled-alone, spelled-pair}
 
 -- what is still to be written from a word on, which is the first of all or not
-abbrev laterOf : Bool → List ℕ → List ℕ
+abbrev pub laterOf : Bool → List ℕ → List ℕ
 laterOf first [] = 10 ∷ []
 laterOf first (w ∷ ws) = entryOf first w ++ laterOf false ws
 
@@ -40,7 +40,7 @@ spaced-later w (v ∷ ws) =
     append-assoc (spell (signIn (signOf w))) (32 ∷ spaced (map spell (signsIn (v ∷ ws)))) (10 ∷ [])
     ∙ ap (λ r. spell (signIn (signOf w)) ++ (32 ∷ r)) (spaced-later v ws)
 
-text-later : (ws : List ℕ) → textOf (signsIn ws) ≡ laterOf true ws
+pub text-later : (ws : List ℕ) → textOf (signsIn ws) ≡ laterOf true ws
 unfolding textOf
 text-later [] = refl
 text-later (w ∷ ws) = spaced-later w ws

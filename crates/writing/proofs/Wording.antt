@@ -1,18 +1,17 @@
 -- What is known of a word that can be written, and how its sign is laid.
 -- Assumes nothing.
 use mathlib.Core.Path.{_≡_, refl, sym, ap, _∙_}
-use mathlib.Core.Bool.{Bool, true, false, cond, _&&_}
-use mathlib.Core.List.{List, [], _∷_, _++_, append-nil}
+use mathlib.Core.List.{List, _++_, append-nil}
 use Prim.Native.Nat.{ℕ, _+_, _-_, _/_, _%_, _≤_, _<_}
 use native.Mathlib.Omega.{arith}
 use borrow.Author.Tests.{lt-ltb, le-ltb}
-use lib.Dec.{T, leb, ltb, leb→le}
+use lib.Dec.{T, leb, leb→le}
 use lib.ListN.{length}
-use Rattle.refusals.specs.Limits.{Limits, document01}
+use Rattle.refusals.specs.Limits.{document01}
 use Rattle.signs.specs.declared.sign.Sign.{Sign}
 use Rattle.signs.specs.declared.word.Unpacked.{Unpacked}
 use Rattle.signs.specs.declared.word.Unpacked.the-variants.{Packed, Nothing}
-use Rattle.signs.specs.Words.{Parts, parts, partsOf, signOf}
+use Rattle.signs.specs.Words.{parts, partsOf, signOf}
 use Rattle.signs.specs.Spellings.{asNumber, lettersOf}
 use Rattle.signs.proofs.Table.{both-left, both-right}
 use Rattle.signs.proofs.Scan.{letters-proper, letters-short}
@@ -20,8 +19,8 @@ use Rattle.signs.proofs.Packing.{word-parts, kind-range}
 use Rattle.writing.specs.Laid.{Laid}
 use Rattle.writing.specs.Letters.{lettersIn}
 use Rattle.writing.specs.Spell.{digits, pairText, spellParts, spell}
-use Rattle.writing.specs.Writing.{small, smallIn, writable, signIn}
-use Rattle.writing.proofs.Lettering.{laid-letters, laid-as}
+use Rattle.writing.specs.Writing.{smallIn, writable, signIn}
+use Rattle.writing.proofs.Lettering.{laid-letters}
 use Rattle.writing.proofs.Decimal.{digits-proper}
 
 -- a word that can be written: its sign, and the word's parts, which are the sign's
