@@ -1,5 +1,6 @@
 -- The signs of a text, one step at a time: what the loop that reads them knows.
 -- Assumes nothing.
+use mathlib.Core.Bool.{Bool, true, false, cond}
 use mathlib.Core.Path.{_≡_, refl, sym, ap, _∙_}
 use mathlib.Core.List.{List, [], _∷_, _++_, map}
 use mathlib.Core.Logic.{⊎-elim}
@@ -7,13 +8,14 @@ use Prim.Native.Nat.{ℕ, zero, suc, _+_, _-_, _≤_, _<_}
 use native.Mathlib.Nat.{not-suc-le-zero}
 use native.Mathlib.Numerals.{add-one}
 use native.Mathlib.Omega.{arith}
-use borrow.Author.Tests.{lt-ltb, le-ltb}
+use borrow.Author.Tests.{lt-ltb, le-ltb, ltb-false}
+use lib.Dec.{ltb}
 use lib.ListN.{length, take, drop, set, getD, length-set, length-map}
 use lib.Seq.{sets, sets-eq, set-at, drop-cons, take-suc, take-at, append-snoc, length-take-le}
 use types.Run.{OneOf}
 use denote.Enum.Declared.{tagOf}
 use Rattle.refusals.specs.declared.Refusal.{Refusal}
-use Rattle.refusals.specs.declared.Refusal.the-variants.{TextTooLong, Unreadable}
+use Rattle.refusals.specs.declared.Refusal.the-variants.{TextTooLong, Unreadable, TooManySigns, NoRoom}
 use Rattle.refusals.specs.Limits.{Limits}
 use Rattle.signs.specs.declared.sign.Sign.{Sign}
 use Rattle.signs.specs.declared.next.Next.{Next}
@@ -164,3 +166,24 @@ first-words text zs n e h =
     let ws = map wordOf (signsOf text) in
     let k : length ws ≡ n = length-map (signsOf text) wordOf ∙ counted-size (length (signsOf text)) n (scanned text 0 .stop) e in
     rw (sets-eq ws zs 0 (omega arith)) (take-at ws (drop (0 + length ws) zs) n k)
+
+-- signs that are read fit the buffer
+pub fits-room : (l : Limits) (text : List ℕ) (room n : ℕ) → readingOf l text room ≡ Signs n → n ≤ room
+unfolding readingOf
+fits-room l text room n e = long (ltb (l .bytes) (length text)) e
+  where
+    short : (m : ℕ) (b : Bool) → ltb room m ≡ b → cond b (Refused (NoRoom m)) (Signs m) ≡ Signs n → n ≤ room
+    short m true q e = clash (cc)
+    short m false q e = let f : m ≡ n = cc in omega (arith, ltb-false room m q)
+
+    many : (m : ℕ) (b : Bool) → cond b (Refused TooManySigns) (cond (ltb room m) (Refused (NoRoom m)) (Signs m)) ≡ Signs n → n ≤ room
+    many m true e = clash (cc)
+    many m false e = short m (ltb room m) refl e
+
+    by : (k : Reading) → roomFor l room k ≡ Signs n → n ≤ room
+    by (Refused r) e = clash (cc)
+    by (Signs m) e = many m (ltb (l .signs) m) e
+
+    long : (b : Bool) → cond b (Refused TextTooLong) (roomFor l room (counted text)) ≡ Signs n → n ≤ room
+    long true e = clash (cc)
+    long false e = by (counted text) e

@@ -185,3 +185,17 @@ module _ (l : Limits) (ws out : List ℕ) where
     pub by-length : length ws ≤ g → (n : ℕ) → length (textOf (signsIn ws)) ≡ n → (r : Written) → r ≡ fitted l (length out) n → Answers r
     unfolding writingOf
     by-length b n q r f = answers r (rw (le-ltb (l .signs) (length ws) h, ← e, le-ltb g (length ws) b, q) f)
+
+-- bytes that are written fit the buffer
+pub fits-room : (l : Limits) (ws : List ℕ) (room n : ℕ) → writingOf l ws room ≡ Bytes n → n ≤ room
+unfolding writingOf
+fits-room l ws room n e = many (ltb (l .signs) (length ws)) e
+  where
+    bad : (b : Bool) → cond b (Refused (Unwritable (front (writable l) ws))) (fitted l room (length (textOf (signsIn ws)))) ≡ Bytes n → n ≤ room
+    bad true e = clash (cc)
+    bad false e = fitted-bytes l room (length (textOf (signsIn ws))) n e .1
+
+    many : (b : Bool)
+        → cond b (Refused TooManySigns) (cond (ltb (front (writable l) ws) (length ws)) (Refused (Unwritable (front (writable l) ws))) (fitted l room (length (textOf (signsIn ws))))) ≡ Bytes n → n ≤ room
+    many true e = clash (cc)
+    many false e = bad (ltb (front (writable l) ws) (length ws)) e
