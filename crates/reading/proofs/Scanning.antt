@@ -140,14 +140,18 @@ copy-more ws out i hw ho =
     rw (add-one i, drop-cons out i 0 ho, take-suc ws i 0 hw, append-snoc)
     (set-at (take i ws) (getD out i 0) (drop (suc i) out) (getD ws i 0) i (length-take-le i ws (omega arith)))
 
+pub long-text : (l : Limits) (text : List ℕ) (room : ℕ) → l .bytes < length text → readingOf l text room ≡ Refused TextTooLong
+unfolding readingOf
+long-text l text room h = rw (lt-ltb (l .bytes) (length text) h)
+
 -- the answer and what it leaves in the buffer, by the text's length and by the count
 module _ (l : Limits) (text out : List ℕ) where
   abbrev Answers : Reading → Type 0
   Answers r = (r ≡ readingOf l text (length out)) × (writtenBy (map wordOf (signsOf text)) out r ≡ writtenOf l text out)
 
   pub too-long : l .bytes < length text → Answers (Refused TextTooLong)
-  unfolding readingOf writtenOf
-  too-long h = (rw (lt-ltb (l .bytes) (length text) h), rw (lt-ltb (l .bytes) (length text) h))
+  unfolding writtenOf
+  too-long h = let e = long-text l text (length out) h in (sym e, rw e)
 
   pub by-count : length text ≤ l .bytes → (k r : Reading) → counted text ≡ k → roomFor l (length out) k ≡ r → Answers r
   unfolding readingOf writtenOf

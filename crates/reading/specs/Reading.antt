@@ -7,6 +7,7 @@ use lib.Dec.{ltb}
 use lib.ListN.{length, drop}
 use Rattle.refusals.specs.declared.Refusal.the-variants.{TextTooLong, Unreadable, TooManySigns, NoRoom}
 use Rattle.refusals.specs.Limits.{Limits}
+use Rattle.refusals.specs.Said.{Said, said, saidRefusal}
 use Rattle.signs.specs.declared.sign.Sign.{Sign}
 use Rattle.signs.specs.Words.{wordOf}
 use Rattle.signs.specs.Next.{Coming, sign, nothing, unreadable, coming}
@@ -67,3 +68,8 @@ writtenBy words out (Signs n) = words ++ drop n out
 
 unfoldable pub writtenOf : Limits → List ℕ → List ℕ → List ℕ
 writtenOf l text out = writtenBy (map wordOf (signsOf text)) out (readingOf l text (length out))
+
+-- document 01's number and values for each answer: of signs how many there are
+abbrev pub saidReading : Limits → Reading → Said
+saidReading l (Signs n) = said 0 (n ∷ [])
+saidReading l (Refused r) = saidRefusal l r

@@ -4,7 +4,7 @@ use mathlib.Core.Path.{_≡_, refl, sym, _∙_}
 use mathlib.Core.Bool.{Bool, true, false, not, cond, _&&_, _||_}
 use mathlib.Core.List.{List, [], _∷_}
 use mathlib.Core.Logic.{_⊎_, inl, inr, ⊎-elim}
-use Prim.Native.Nat.{ℕ, _+_, _≤_}
+use Prim.Native.Nat.{ℕ, _+_, _≤_, _<_}
 use native.Mathlib.Omega.{arith}
 use borrow.Author.Tests.{eqb-true, eq-eqb, le-ltb, ltb-true, ltb-false}
 use lib.Dec.{T, T-not, eqb, ltb}
@@ -14,7 +14,7 @@ use Rattle.signs.specs.declared.spelling.Standing.{Standing}
 use Rattle.signs.specs.declared.spelling.Standing.the-variants.{Stands, Nothing}
 use Rattle.signs.specs.Text.{starts}
 use Rattle.signs.specs.Spellings.{Meaning, alone, numbered, Spelling, spellings, finishedAs, spelled, longer, longest}
-use Rattle.signs.proofs.Gaps.{clash, both-true, starts-length}
+use Rattle.signs.proofs.Gaps.{clash, both-true}
 use Rattle.signs.proofs.Table.{both-left, both-right}
 
 -- a spelling of a table
@@ -46,10 +46,10 @@ longest-stands text at [] s p e = clash (cc)
 longest-stands text at (t ∷ ss) s p e =
     ⊎-elim (λ a. record { from = t; listed = here; gives = a }) (λ b. comes-later (longest-stands text at ss s p b)) (longer-is (spelled text at t) (longest text at ss) s p e)
 
--- what ends at p or before
+-- what ends before p
 abbrev pub Within : ℕ → Standing → Type 0
 Within p Nothing = Unit
-Within p (Stands s q) = q ≤ p
+Within p (Stands s q) = q < p
 
 -- b ends where r does, or before
 abbrev Reached : Standing → Standing → Type 0
@@ -146,6 +146,22 @@ T-true : (b : Bool) → b ≡ true → T b
 T-true true e = tt
 T-true false e = clash (cc)
 
+-- letters that begin others which do not begin them are fewer
+starts-same : (u v : List ℕ) → starts v u ≡ true → length u ≤ length v → starts u v ≡ true
+unfolding starts
+starts-same [] v e h = refl
+starts-same (x ∷ u) [] e h = absurd (omega arith)
+starts-same (x ∷ u) (y ∷ v) e h =
+    let p = both-true (eqb y x) (starts v u) e in
+    rw (eq-eqb x y (sym (eqb-true y x (p .0)))) (starts-same u v (p .1) (omega arith))
+
+fewer : (u v : List ℕ) → T (not (starts u v)) → starts v u ≡ true → length v < length u
+fewer u v t e = go (ltb (length v) (length u)) refl
+  where
+    go : (b : Bool) → ltb (length v) (length u) ≡ b → length v < length u
+    go true q = ltb-true (length v) (length u) q
+    go false q = absurd (T-not (starts u v) t (T-true _ (starts-same u v e (ltb-false (length v) (length u) q))))
+
 apart-within : (text : List ℕ) (at : ℕ) (a b : Spelling) → T (apart a b) → (x : Sign) (p : ℕ) → spelled text at a ≡ Stands x p → Within p (spelled text at b)
 apart-within text at a b t x p e = go (spelled text at b) refl
   where
@@ -162,7 +178,7 @@ apart-within text at a b t x p e = go (spelled text at b) refl
         let m = or-else (simple (a .means) && simple (b .means)) (starts (b .letters) (a .letters)) r c in
         let ea = simple-end text (at + length (a .letters)) (a .means) x p (both-left (simple (a .means)) (simple (b .means)) m) (sa .1) in
         let eb = simple-end text (at + length (b .letters)) (b .means) y q (both-right (simple (a .means)) (simple (b .means)) m) (sb .1) in
-        omega (arith, starts-length (b .letters) (a .letters) c))
+        omega (arith, fewer (a .letters) (b .letters) l c))
         (compatible (a .letters) (b .letters) (drop at text) (sa .0) (sb .0))
 
 within-longer : (p : ℕ) (a b : Standing) → Within p a → Within p b → Within p (longer a b)
@@ -184,7 +200,7 @@ before-within text at a (b ∷ ss) t x p e =
 
 keeps : (s : Sign) (p : ℕ) (r : Standing) → Within p r → longer (Stands s p) r ≡ Stands s p
 keeps s p Nothing w = refl
-keeps s p (Stands t q) w = rw (le-ltb p q w)
+keeps s p (Stands t q) w = rw (le-ltb p q (omega arith))
 
 first-of-ordered : (text : List ℕ) (at : ℕ) (ss : List Spelling) → T (ordered ss) → longest text at ss ≡ first text at ss
 unfolding longest
@@ -194,6 +210,36 @@ first-of-ordered text at (s ∷ ss) t = go (spelled text at s) refl (first-of-or
     go : (r : Standing) → spelled text at s ≡ r → longest text at ss ≡ first text at ss → longer r (longest text at ss) ≡ orElse r (first text at ss)
     go Nothing e ih = ih
     go (Stands x p) e ih = keeps x p (longest text at ss) (before-within text at s ss (both-left (before s ss) (ordered ss) t) x p e)
+
+in-cons : {w x : Spelling} {ss : List Spelling} → In w (x ∷ ss) → (P : Spelling → Type 0) → P x → (In w ss → P w) → P w
+in-cons here P a b = a
+in-cons (there m) P a b = b m
+
+before-in : (x : Spelling) (ss : List Spelling) (w : Spelling) → T (before x ss) → In w ss → T (apart x w)
+before-in x (y ∷ ss) w t here = both-left (apart x y) (before x ss) t
+before-in x (y ∷ ss) w t (there m) = before-in x ss w (both-right (apart x y) (before x ss) t) m
+
+-- in an ordered table every other spelling that stands ends before the longest
+abbrev Shorter : List ℕ → ℕ → Sign → ℕ → Spelling → Type 0
+Shorter text at s p w = (spelled text at w ≡ Stands s p) ⊎ Within p (spelled text at w)
+
+others-shorter : (text : List ℕ) (at : ℕ) (ss : List Spelling) → T (ordered ss) → (s : Sign) (p : ℕ) → longest text at ss ≡ Stands s p → (w : Spelling) → In w ss → Shorter text at s p w
+unfolding longest
+others-shorter text at [] o s p e w m = clash (cc)
+others-shorter text at (x ∷ ss) o s p e w m = go (spelled text at x) refl e (others-shorter text at ss (both-right (before x ss) (ordered ss) o) s p)
+  where
+    go : (r : Standing) → spelled text at x ≡ r → longer r (longest text at ss) ≡ Stands s p → (longest text at ss ≡ Stands s p → (v : Spelling) → In v ss → Shorter text at s p v) → Shorter text at s p w
+    go Nothing f e ih = in-cons m (Shorter text at s p) (inr (rw f tt)) (ih e w)
+    go (Stands y q) f e ih =
+        let t = both-left (before x ss) (ordered ss) o in
+        let u : Stands y q ≡ Stands s p = sym (keeps y q (longest text at ss) (before-within text at x ss t y q f)) ∙ e in
+        in-cons m (Shorter text at s p) (inl (f ∙ u)) (λ n. inr (apart-within text at x w (before-in x ss w t n) s p (f ∙ u)))
+
+-- the sign that is taken stands there, and is longer than every other that does
+pub longest-only : (text : List ℕ) (at : ℕ) (s : Sign) (p : ℕ) → longest text at spellings ≡ Stands s p
+    → Comes text at spellings (Stands s p) × ((w : Spelling) → In w spellings → Shorter text at s p w)
+unfolding spellings starts
+longest-only text at s p e = (longest-stands text at spellings s p e, others-shorter text at spellings tt s p e)
 
 pub longest-first : (text : List ℕ) (at : ℕ) → longest text at spellings ≡ first text at spellings
 unfolding spellings starts

@@ -1,18 +1,20 @@
 -- The next sign of a text, from a place on.
 -- Assumes nothing.
 use mathlib.Core.Bool.{Bool, true, false, cond}
-use mathlib.Core.List.{List}
+use mathlib.Core.List.{List, [], _∷_}
 use Prim.Native.Nat.{ℕ}
 use lib.Dec.{ltb}
 use lib.ListN.{length}
 use Rattle.refusals.specs.declared.Refusal.the-variants.{TextTooLong, Unreadable}
 use Rattle.refusals.specs.Limits.{Limits}
+use Rattle.refusals.specs.Said.{Said, said, saidRefusal}
 use Rattle.signs.specs.declared.sign.Sign.{Sign}
 use Rattle.signs.specs.declared.spelling.Standing.{Standing}
 use Rattle.signs.specs.declared.spelling.Standing.the-variants.{Stands, Nothing}
 use Rattle.signs.specs.declared.next.Next.{Next}
 use Rattle.signs.specs.declared.next.Next.the-variants.{Found, End, Refused}
 use Rattle.signs.specs.Text.{past}
+use Rattle.signs.specs.Words.{wordOf}
 use Rattle.signs.specs.Spellings.{spellings, longest}
 
 -- what comes next: a sign with where it begins and ends, the end of the text, or no sign at the byte where one would begin
@@ -41,3 +43,9 @@ answered (unreadable begin) = Refused (Unreadable begin)
 -- the answer for a text and a place: its length is tested first
 unfoldable pub nextSign : Limits → List ℕ → ℕ → Next
 nextSign l text at = cond (ltb (l .bytes) (length text)) (Refused TextTooLong) (answered (coming text at))
+
+-- document 01's number and values for each answer: of a sign its word and the next place, of the end nothing
+abbrev pub saidNext : Limits → Next → Said
+saidNext l (Found s end) = said 0 (wordOf s ∷ end ∷ [])
+saidNext l End = said 0 []
+saidNext l (Refused r) = saidRefusal l r

@@ -7,6 +7,7 @@ use lib.Dec.{ltb, leb}
 use lib.ListN.{length, drop}
 use Rattle.refusals.specs.declared.Refusal.the-variants.{TextTooLong, TooManySigns, NoRoom, Unwritable}
 use Rattle.refusals.specs.Limits.{Limits}
+use Rattle.refusals.specs.Said.{Said, said, saidRefusal}
 use Rattle.signs.specs.declared.sign.Sign.{Sign}
 use Rattle.signs.specs.declared.sign.Sign.the-variants.{Fine}
 use Rattle.signs.specs.declared.word.Unpacked.{Unpacked}
@@ -70,3 +71,8 @@ spellingOf l s room = cond (small l s) (fitted l room (length (spell s))) (Refus
 
 unfoldable pub spelledOf : Limits → Sign → List ℕ → List ℕ
 spelledOf l s out = leftBy (spell s) out (spellingOf l s (length out))
+
+-- document 01's number and values for each answer: of bytes how many there are
+abbrev pub saidWritten : Limits → Written → Said
+saidWritten l (Bytes n) = said 0 (n ∷ [])
+saidWritten l (Refused r) = saidRefusal l r
