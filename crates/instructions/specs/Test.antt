@@ -6,6 +6,7 @@ use Prim.Native.Nat.{ℕ, zero, suc}
 use lib.ListN.{length, getD}
 use lib.Dec.{leb, ltb, eqb}
 use Rattle.refusals.specs.Limits.{Limits}
+use Rattle.refusals.specs.Said.{Said, said, saidRefusal}
 use Rattle.refusals.specs.declared.Refusal.the-variants.{BadListing}
 use Rattle.instructions.specs.declared.Operation.{Operation}
 use Rattle.instructions.specs.declared.Operation.the-variants.{Block, Loop, Repeat, Label, Jump, JumpUnless}
@@ -56,6 +57,11 @@ testListing l listing =
     (ltb (firstBreak l listing) (length listing))
     (Refused (BadListing (firstBreak l listing)))
     Good
+
+-- document 01's number and values for each answer
+abbrev pub saidTested : Limits → Tested → Said
+saidTested l Good = said 0 []
+saidTested l (Refused r) = saidRefusal l r
 
 -- f 0 .. f (n - 1)
 unfoldable pub table : ℕ → (ℕ → ℕ) → List ℕ

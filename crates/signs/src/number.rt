@@ -23,7 +23,7 @@ fn is_digit(b: u8) -> bool
 }
 
 // The number at a place: 1 to 6 digits, no leading zero except 0 alone.
-pub fn read_number(text: &[u8], at: usize) -> Number
+fn read_number(text: &[u8], at: usize) -> Number
     ensures { λ r. ⌜ r ≡ numberAt (now (text .entry)) at ⌝ }
 {
     let mut n: usize = 0;
@@ -54,7 +54,7 @@ pub fn read_number(text: &[u8], at: usize) -> Number
 }
 
 // Spaces, a number, a comma, spaces, a number and a closing bracket.
-pub fn read_pair(text: &[u8], at: usize) -> Pair
+pub(crate) fn read_pair(text: &[u8], at: usize) -> Pair
     ensures { λ r. ⌜ r ≡ pairAt (now (text .entry)) at ⌝ }
 {
     let Number::Read(k, p) = read_number(text, past(text, at, true)) else {

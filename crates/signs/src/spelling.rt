@@ -83,7 +83,7 @@ fn finished(text: &[u8], i: usize, at: usize) -> Standing
 }
 
 // The longest spelling that stands at a place.
-pub fn sign_at(text: &[u8], at: usize) -> Standing
+pub(crate) fn sign_at(text: &[u8], at: usize) -> Standing
     ensures { λ r. ⌜ r ≡ longest (now (text .entry)) at spellings ⌝ }
 {
     let mut i = first_with(peek(text, at));

@@ -5,7 +5,7 @@ ghost use Rattle.signs.specs.Text.{gap};
 ghost use Rattle.signs.specs.Text.{past as pastGap};
 
 // The byte at a place, 0 past the text.
-pub fn peek(text: &[u8], at: usize) -> u8
+pub(crate) fn peek(text: &[u8], at: usize) -> u8
     ensures { λ r. ⌜ r ≡ getD (now (text .entry)) at 0 ⌝ }
 {
     if at < text.len() { text[at] } else { 0 }
@@ -25,7 +25,7 @@ fn is_gap(b: u8, inside: bool) -> bool
 }
 
 // The first place from `at` on that is not in the gap there.
-pub fn past(text: &[u8], at: usize, inside: bool) -> usize
+pub(crate) fn past(text: &[u8], at: usize, inside: bool) -> usize
     ensures { λ r. ⌜ r ≡ pastGap inside (now (text .entry)) at ⌝ }
 {
     let mut i = at;

@@ -80,7 +80,7 @@ pub fn unpack(w: u64) -> Unpacked
 }
 
 // The sign of a kind that carries no number, or nothing.
-pub fn plain(kind: u64) -> Unpacked
+pub(crate) fn plain(kind: u64) -> Unpacked
     ensures { λ r. ⌜ r ≡ plainSign kind ⌝ }
 {
     match kind {

@@ -12,7 +12,7 @@ ghost use Rattle.writing.specs.Spell.{digits, pairText, spell};
 ghost use Rattle.writing.specs.Writing.{writable, signIn};
 
 // Puts one byte.
-pub fn put_byte(out: &mut [u8], at: usize, b: u8)
+pub(crate) fn put_byte(out: &mut [u8], at: usize, b: u8)
     ensures { λ _. ⌜ now (out .exit) ≡ set (now (out .entry)) at b ⌝ }
 {
     if at < out.len() {
@@ -62,7 +62,7 @@ fn put_pair(out: &mut [u8], at: usize, k: u64, l: u64) -> usize
 }
 
 // Puts the sign that a word packs.
-pub fn put_word(out: &mut [u8], at: usize, word: u64) -> usize
+pub(crate) fn put_word(out: &mut [u8], at: usize, word: u64) -> usize
     requires { ⌜ (at ≤ 32000) × T (writable document01 word) ⌝ }
     ensures { λ r. ⌜ Laid (now (out .entry)) at (spell (signIn (signOf word))) (now (out .exit)) r ⌝ }
 {
