@@ -1,7 +1,7 @@
 -- Texts of document 01, what is read there, and how they are refused; by computation on the definitions.
 -- Assumes nothing.
 use mathlib.Core.Path.{_≡_, refl, ap}
-use mathlib.Core.List.{List, [], _∷_}
+use mathlib.Core.List.{List, [], _∷_, _++_}
 use Prim.Native.Nat.{ℕ, suc, _≤_}
 use native.Mathlib.Omega.{arith}
 use borrow.Author.Tests.{le-ltb}
@@ -13,7 +13,7 @@ use Rattle.signs.specs.declared.sign.Jumped.the-variants.{Dc, DcCoda, Ds}
 use Rattle.signs.specs.declared.sign.Sign.{Sign}
 use Rattle.signs.specs.Bytes.{bytes}
 use Rattle.signs.specs.Text.{starts}
-use Rattle.signs.specs.Words.{wordOf}
+use Rattle.signs.specs.Words.{saidSign}
 use Rattle.signs.specs.Numbers.{leading, decimal, numeral, pairAt}
 use Rattle.signs.specs.Spellings.{spellings, longest}
 use Rattle.signs.specs.Next.{nothing, unreadable, coming, nextSign, saidNext}
@@ -28,7 +28,7 @@ pub record Example : Type 0 where
   pub says : Said
 
 abbrev a-sign : List ℕ → ℕ → Sign → ℕ → Example
-a-sign t a s e = record { text = t; at = a; says = said 0 (wordOf s ∷ e ∷ []) }
+a-sign t a s e = record { text = t; at = a; says = said 0 (saidSign s ++ (e ∷ [])) }
 
 abbrev no-more : List ℕ → ℕ → Example
 no-more t a = record { text = t; at = a; says = said 0 [] }

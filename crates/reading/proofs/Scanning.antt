@@ -27,7 +27,7 @@ use Rattle.signs.proofs.Coming.{coming-reach}
 use Rattle.signs.proofs.Gaps.{clash}
 use Rattle.reading.specs.declared.Reading.{Reading}
 use Rattle.reading.specs.declared.Reading.the-variants.{Signs, Refused}
-use Rattle.reading.specs.Reading.{onward, scanFrom, scanned, signsOf, countedBy, counted, roomFor, readingOf, writtenBy, writtenOf}
+use Rattle.reading.specs.Reading.{onward, scanFrom, scanned, signsOf, countedBy, counted, roomFor, readingOf, saidReading, readingSaid, bufferBy, bufferOf}
 
 -- more than the bytes left is enough, and then it does not matter how much
 module _ (text : List ℕ) where
@@ -147,17 +147,19 @@ long-text l text room h = rw (lt-ltb (l .bytes) (length text) h)
 -- the answer and what it leaves in the buffer, by the text's length and by the count
 module _ (l : Limits) (text out : List ℕ) where
   abbrev Answers : Reading → Type 0
-  Answers r = (r ≡ readingOf l text (length out)) × (writtenBy (map wordOf (signsOf text)) out r ≡ writtenOf l text out)
+  Answers r =
+      (r ≡ readingOf l text (length out)) × ((saidReading l r ≡ readingSaid l text (length out)) × (bufferBy (map wordOf (signsOf text)) out r ≡ bufferOf l text out))
+
+  answers : (r : Reading) → r ≡ readingOf l text (length out) → Answers r
+  unfolding bufferOf
+  answers r e = (e, (ap (saidReading l) e, ap (bufferBy (map wordOf (signsOf text)) out) e))
 
   pub too-long : l .bytes < length text → Answers (Refused TextTooLong)
-  unfolding writtenOf
-  too-long h = let e = long-text l text (length out) h in (sym e, rw e)
+  too-long h = answers (Refused TextTooLong) (sym (long-text l text (length out) h))
 
   pub by-count : length text ≤ l .bytes → (k r : Reading) → counted text ≡ k → roomFor l (length out) k ≡ r → Answers r
-  unfolding readingOf writtenOf
-  by-count h k r e f =
-      let q : roomFor l (length out) (counted text) ≡ r = ap (roomFor l (length out)) e ∙ f in
-      (rw (le-ltb (l .bytes) (length text) h) (sym q), rw (le-ltb (l .bytes) (length text) h) (sym (ap (writtenBy (map wordOf (signsOf text)) out) q)))
+  unfolding readingOf
+  by-count h k r e f = answers r (rw (le-ltb (l .bytes) (length text) h) (sym (ap (roomFor l (length out)) e ∙ f)))
 
 -- the words of all signs, where there is room for them
 counted-size : (m n : ℕ) (c : Coming) → countedBy m c ≡ Signs n → m ≡ n

@@ -30,12 +30,12 @@ onward nothing k = record { placed = []; stop = nothing }
 onward (unreadable b) k = record { placed = []; stop = unreadable b }
 onward (sign s b e) k = let r = k e in record { placed = record { the = s; begin = b; end = e } ∷ r .placed; stop = r .stop }
 
--- at most f signs from a place on, each directly behind the one before
+-- at most f signs from a place on, each directly behind the one before; where f runs out, as if at the end
 unfoldable pub scanFrom : ℕ → List ℕ → ℕ → Scanned
 scanFrom zero text at = record { placed = []; stop = nothing }
 scanFrom (suc f) text at = onward (coming text at) (λ e. scanFrom f text e)
 
--- all signs from a place on: each takes a byte, so there are fewer than one more than the bytes left
+-- all signs from a place on: each takes a byte, so there are at most as many as bytes left
 unfoldable pub scanned : List ℕ → ℕ → Scanned
 scanned text at = scanFrom (suc (length text - at)) text at
 
@@ -43,7 +43,7 @@ scanned text at = scanFrom (suc (length text - at)) text at
 abbrev pub signsOf : List ℕ → List Sign
 signsOf text = map (λ p. p .the) (scanned text 0 .placed)
 
--- how many there are, or 2 where one can't be read
+-- how many there are, or 2 where one can't be read; no sign comes after the last
 abbrev pub countedBy : ℕ → Coming → Reading
 countedBy n nothing = Signs n
 countedBy n (sign s b e) = Signs n
@@ -62,14 +62,18 @@ unfoldable pub readingOf : Limits → List ℕ → ℕ → Reading
 readingOf l text room = cond (ltb (l .bytes) (length text)) (Refused TextTooLong) (roomFor l room (counted text))
 
 -- the words in front of the buffer's old content, which a refusal leaves as it was
-abbrev pub writtenBy : List ℕ → List ℕ → Reading → List ℕ
-writtenBy words out (Refused r) = out
-writtenBy words out (Signs n) = words ++ drop n out
+abbrev pub bufferBy : List ℕ → List ℕ → Reading → List ℕ
+bufferBy words out (Refused r) = out
+bufferBy words out (Signs n) = words ++ drop n out
 
-unfoldable pub writtenOf : Limits → List ℕ → List ℕ → List ℕ
-writtenOf l text out = writtenBy (map wordOf (signsOf text)) out (readingOf l text (length out))
+unfoldable pub bufferOf : Limits → List ℕ → List ℕ → List ℕ
+bufferOf l text out = bufferBy (map wordOf (signsOf text)) out (readingOf l text (length out))
 
 -- document 01's number and values for each answer: of signs how many there are
 abbrev pub saidReading : Limits → Reading → Said
 saidReading l (Signs n) = said 0 (n ∷ [])
 saidReading l (Refused r) = saidRefusal l r
+
+-- the same for a text and a buffer's length
+abbrev pub readingSaid : Limits → List ℕ → ℕ → Said
+readingSaid l text room = saidReading l (readingOf l text room)

@@ -6,7 +6,7 @@ ghost use lib.ListN.{length, take, drop, set};
 ghost use lib.Seq.{sets};
 ghost use Rattle.refusals.specs.Limits.{document01};
 ghost use Rattle.signs.specs.Words.{wordOf};
-ghost use Rattle.reading.specs.Reading.{signsOf, counted, readingOf, writtenOf};
+ghost use Rattle.reading.specs.Reading.{signsOf, counted, readingOf, saidReading, readingSaid, bufferOf};
 use refusals::Refusal;
 use refusals::SIGNS;
 use signs::Next;
@@ -63,7 +63,8 @@ fn copy(words: &[u64], n: usize, out: &mut [u64])
 // Reads all signs of a text into a buffer, which a refusal leaves as it was.
 pub fn read_signs(text: &[u8], out: &mut [u64]) -> Reading
     ensures answer { λ r. ⌜ r ≡ readingOf document01 (now (text .entry)) (length (now (out .entry))) ⌝ }
-    ensures buffer { λ _. ⌜ now (out .exit) ≡ writtenOf document01 (now (text .entry)) (now (out .entry)) ⌝ }
+    ensures numbers { λ r. ⌜ saidReading document01 r ≡ readingSaid document01 (now (text .entry)) (length (now (out .entry))) ⌝ }
+    ensures buffer { λ _. ⌜ now (out .exit) ≡ bufferOf document01 (now (text .entry)) (now (out .entry)) ⌝ }
 {
     if refusals::BYTES < text.len() {
         return Reading::Refused(Refusal::TextTooLong);

@@ -1,4 +1,4 @@
--- What document 01 says of an answer: a number, 0 for no refusal, and values.
+-- What is said of an answer in document 01's numbers: a refusal's number, here 0 where there is none, and values.
 -- Assumes nothing.
 use mathlib.Core.List.{List, [], _∷_}
 use Prim.Native.Nat.{ℕ}

@@ -14,7 +14,8 @@ ghost use mathlib.Core.Path.{_≡_};
 ghost use Rattle.refusals.specs.Limits.{document01};
 ghost use Rattle.refusals.specs.Refusals.{numberOf, placeOf};
 
-// A case for each way to be refused; two of them have the number 5.
+// A case for each way to be refused. Two have the number 5: what is wrong with a score's number and what the writer can't spell are
+// mended at different desks; a text, a list or a buffer that is too long or too short is mended in the same way whoever says so.
 pub enum Refusal {
     // The text is too long.
     TextTooLong,
@@ -22,7 +23,7 @@ pub enum Refusal {
     Unreadable(u64),
     // There are too many signs.
     TooManySigns,
-    // No score begins with the signs up to this one.
+    // No score begins with the signs up to this one; the number of signs where the score is only unfinished.
     NoScore(u64),
     // A number of this sign breaks its rule.
     BadNumber(u64),

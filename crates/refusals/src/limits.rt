@@ -1,4 +1,4 @@
-// The limits in force, as specs/Limits.antt has them.
+// The limits in force that code tests, as specs/Limits.antt has them.
 
 // The bytes of a sign text.
 pub const BYTES: usize = 16384;

@@ -22,6 +22,7 @@ use Rattle.signs.specs.Spellings.{Meaning, alone, numbered, Spelling, sp
 use Rattle.signs.proofs.Gaps.{clash}
 use Rattle.signs.proofs.Table.{below}
 use Rattle.signs.proofs.Longest.{simple}
+use Rattle.signs.proofs.Scan.{sixteen}
 
 abbrev packedAs : Meaning → Unpacked
 packedAs (alone s) = Packed s
@@ -35,10 +36,6 @@ getD-map : (ss : List Spelling) (d : Spelling) (i : ℕ) → i < length ss → g
 getD-map [] d i h = absurd (not-suc-le-zero h)
 getD-map (s ∷ ss) d zero h = refl
 getD-map (s ∷ ss) d (suc i) h = getD-map ss d i (le-of-suc-le-suc h)
-
-sixteen : length spellings ≡ 16
-unfolding spellings
-sixteen = refl
 
 plain-at : (i : ℕ) → i < 16 → plainSign (i + 1) ≡ packedAs (spelling i .means)
 plain-at i h = ap (λ us. getD us (i + 1) Nothing) at-kinds ∙ rw add-one (getD-map spellings _ i (omega (arith, sixteen)))

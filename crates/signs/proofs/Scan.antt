@@ -42,7 +42,8 @@ pub letters-short : (i : ℕ) → i < 16 → length (lettersOf i) ≤ 7
 unfolding spellings
 letters-short i h = leb→le (length (lettersOf i)) 7 (below 16 (λ i. leb (length (lettersOf i)) 7) tt i h)
 
-sixteen : length spellings ≡ 16
+-- there are sixteen
+pub sixteen : length spellings ≡ 16
 unfolding spellings
 sixteen = refl
 

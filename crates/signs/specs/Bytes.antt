@@ -1,4 +1,4 @@
--- A quoted text as the list of its bytes.
+-- A quoted text of plain letters as the list of its bytes.
 -- Assumes nothing.
 use mathlib.Core.List.{List, [], _∷_}
 use Prim.Native.Nat.{ℕ}

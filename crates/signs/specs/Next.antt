@@ -1,7 +1,7 @@
 -- The next sign of a text, from a place on.
 -- Assumes nothing.
 use mathlib.Core.Bool.{Bool, true, false, cond}
-use mathlib.Core.List.{List, [], _∷_}
+use mathlib.Core.List.{List, [], _∷_, _++_}
 use Prim.Native.Nat.{ℕ}
 use lib.Dec.{ltb}
 use lib.ListN.{length}
@@ -14,7 +14,7 @@ use Rattle.signs.specs.declared.spelling.Standing.the-variants.{Stands, 
 use Rattle.signs.specs.declared.next.Next.{Next}
 use Rattle.signs.specs.declared.next.Next.the-variants.{Found, End, Refused}
 use Rattle.signs.specs.Text.{past}
-use Rattle.signs.specs.Words.{wordOf}
+use Rattle.signs.specs.Words.{saidSign}
 use Rattle.signs.specs.Spellings.{spellings, longest}
 
 -- what comes next: a sign with where it begins and ends, the end of the text, or no sign at the byte where one would begin
@@ -44,8 +44,12 @@ answered (unreadable begin) = Refused (Unreadable begin)
 unfoldable pub nextSign : Limits → List ℕ → ℕ → Next
 nextSign l text at = cond (ltb (l .bytes) (length text)) (Refused TextTooLong) (answered (coming text at))
 
--- document 01's number and values for each answer: of a sign its word and the next place, of the end nothing
+-- document 01's number and values for each answer: of a sign what is said of it and the next place, of the end nothing
 abbrev pub saidNext : Limits → Next → Said
-saidNext l (Found s end) = said 0 (wordOf s ∷ end ∷ [])
+saidNext l (Found s end) = said 0 (saidSign s ++ (end ∷ []))
 saidNext l End = said 0 []
 saidNext l (Refused r) = saidRefusal l r
+
+-- the same for a text and a place
+abbrev pub nextSaid : Limits → List ℕ → ℕ → Said
+nextSaid l text at = saidNext l (nextSign l text at)

@@ -77,7 +77,7 @@ unfoldable pub longest : List ℕ → ℕ → List Spelling → Standing
 longest text at [] = Nothing
 longest text at (s ∷ ss) = longer (spelled text at s) (longest text at ss)
 
--- spelling i, its letters, one of them, and its meaning
+-- spelling i, with no letters past the last; its letters, one of them, and what stands where they end
 abbrev pub spelling : ℕ → Spelling
 spelling i = getD spellings i (spells "" (alone Fine))
 

@@ -6,7 +6,7 @@ use Prim.Native.Nat.{ℕ, zero, suc, _+_}
 use lib.Dec.{eqb}
 use lib.ListN.{drop}
 
--- how many bytes at the front pass a test
+-- how many numbers at the front of a list pass a test
 abbrev pub front : (ℕ → Bool) → List ℕ → ℕ
 front f [] = 0
 front f (b ∷ bs) = cond (f b) (suc (front f bs)) 0
@@ -19,7 +19,7 @@ separator b = eqb b 32 || (eqb b 9 || (eqb b 10 || eqb b 13))
 abbrev pub space : ℕ → Bool
 space b = eqb b 32
 
--- a byte that may stand in a gap: inside a sign, or between signs
+-- a byte that may stand in a gap: inside a sign (true), or between signs (false)
 abbrev pub gap : Bool → ℕ → Bool
 gap true = space
 gap false = separator

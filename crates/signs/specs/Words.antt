@@ -5,6 +5,7 @@ use mathlib.Core.List.{List, [], _∷_}
 use Prim.Native.Nat.{ℕ, _+_, _*_, _/_, _%_}
 use lib.Dec.{eqb, ltb}
 use lib.ListN.{getD}
+use Rattle.refusals.specs.Said.{Said, said}
 use Rattle.signs.specs.declared.sign.Jumped.{Jumped}
 use Rattle.signs.specs.declared.sign.Jumped.the-variants.{Dc, DcCoda, DcFine, Ds, DsCoda, DsFine}
 use Rattle.signs.specs.declared.sign.Sign.{Sign}
@@ -90,3 +91,12 @@ unpacked kind a b =
 -- the sign of a word
 abbrev pub signOf : ℕ → Unpacked
 signOf w = unpacked (w % 256) (w / 256 % 268435456) (w / 68719476736)
+
+-- what is said of a sign: its kind and the numbers that it carries
+abbrev pub saidSign : Sign → List ℕ
+saidSign s = partsOf s .kind ∷ partsOf s .first ∷ partsOf s .second ∷ []
+
+-- the values for each answer: of a sign these, of none nothing
+abbrev pub saidUnpacked : Unpacked → Said
+saidUnpacked (Packed s) = said 0 (saidSign s)
+saidUnpacked Nothing = said 0 []

@@ -1,7 +1,7 @@
 // The next sign of a text, from a place on.
 ghost use mathlib.Core.Path.{_≡_};
 ghost use Rattle.refusals.specs.Limits.{document01};
-ghost use Rattle.signs.specs.Next.{nextSign};
+ghost use Rattle.signs.specs.Next.{nextSign, saidNext, nextSaid};
 use crate::sign::Sign;
 use crate::spelling::Standing;
 use crate::spelling::sign_at;
@@ -17,7 +17,8 @@ pub enum Next {
 
 // The next sign from a place on.
 pub fn next_sign(text: &[u8], at: usize) -> Next
-    ensures { λ r. ⌜ r ≡ nextSign document01 (now (text .entry)) at ⌝ }
+    ensures answer { λ r. ⌜ r ≡ nextSign document01 (now (text .entry)) at ⌝ }
+    ensures numbers { λ r. ⌜ saidNext document01 r ≡ nextSaid document01 (now (text .entry)) at ⌝ }
 {
     if refusals::BYTES < text.len() {
         return Next::Refused(Refusal::TextTooLong);

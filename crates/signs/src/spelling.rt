@@ -15,7 +15,7 @@ pub enum Standing {
     Nothing,
 }
 
-// The letters of spelling i as one number, the first of them in its lowest 8 bits.
+// The letters of spelling i as one number, the first of them in its lowest 8 bits; 0 past the last spelling.
 pub fn letters(i: usize) -> u64
     ensures { λ r. ⌜ r ≡ asNumber (lettersOf i) ⌝ }
 {

@@ -25,7 +25,7 @@ use Rattle.writing.specs.declared.Written.{Written}
 use Rattle.writing.specs.declared.Written.the-variants.{Bytes, Refused}
 use Rattle.writing.specs.Laid.{Laid}
 use Rattle.writing.specs.Spell.{pairText, digits, spell, spaced, textOf}
-use Rattle.writing.specs.Writing.{bothSmall, small, smallIn, writable, signIn, signsIn, entryOf, fitted, writingOf, leftBy, leftOf, spellingOf, spelledOf}
+use Rattle.writing.specs.Writing.{bothSmall, small, smallIn, writable, signIn, signsIn, entryOf, fitted, writingOf, contentBy, contentOf, writingOne, contentOne, saidWritten, writingSaid, writingSaidOne}
 use Rattle.writing.proofs.Lettering.{laid-join}
 use Rattle.writing.proofs.Wording.{writes, few-digits, spelled-alone, spelled-pair}
 
@@ -150,28 +150,28 @@ sign-in s t =
 -- the answer for one sign, and what it leaves
 module _ (l : Limits) (s : Sign) (out : List ℕ) where
   abbrev Spells : Written → Type 0
-  Spells r = (r ≡ spellingOf l s (length out)) × (leftBy (spell s) out r ≡ spelledOf l s out)
+  Spells r = (r ≡ writingOne l s (length out)) × ((saidWritten l r ≡ writingSaidOne l s (length out)) × (contentBy (spell s) out r ≡ contentOne l s out))
 
-  spells : (r : Written) → r ≡ spellingOf l s (length out) → Spells r
-  unfolding spelledOf
-  spells r e = (e, ap (leftBy (spell s) out) e)
+  spells : (r : Written) → r ≡ writingOne l s (length out) → Spells r
+  unfolding contentOne
+  spells r e = (e, (ap (saidWritten l) e, ap (contentBy (spell s) out) e))
 
   pub no-spelling : small l s ≡ false → Spells (Refused (Unwritable 0))
-  unfolding spellingOf
+  unfolding writingOne
   no-spelling e = spells (Refused (Unwritable 0)) (rw e)
 
   pub spells-by : small l s ≡ true → (n : ℕ) → length (spell s) ≡ n → (r : Written) → r ≡ fitted l (length out) n → Spells r
-  unfolding spellingOf
+  unfolding writingOne
   spells-by e n q r f = spells r (rw (e, q) f)
 
 -- the answer and what it leaves, by the tests in their order
 module _ (l : Limits) (ws out : List ℕ) where
   abbrev Answers : Written → Type 0
-  Answers r = (r ≡ writingOf l ws (length out)) × (leftBy (textOf (signsIn ws)) out r ≡ leftOf l ws out)
+  Answers r = (r ≡ writingOf l ws (length out)) × ((saidWritten l r ≡ writingSaid l ws (length out)) × (contentBy (textOf (signsIn ws)) out r ≡ contentOf l ws out))
 
   answers : (r : Written) → r ≡ writingOf l ws (length out) → Answers r
-  unfolding leftOf
-  answers r e = (e, ap (leftBy (textOf (signsIn ws)) out) e)
+  unfolding contentOf
+  answers r e = (e, (ap (saidWritten l) e, ap (contentBy (textOf (signsIn ws)) out) e))
 
   pub too-many : l .signs < length ws → Answers (Refused TooManySigns)
   unfolding writingOf

@@ -19,7 +19,7 @@ use Rattle.signs.proofs.Gaps.{clash, past-more, past-here}
 use Rattle.signs.proofs.Packing.{word-again}
 use Rattle.signs.proofs.Coming.{coming-end}
 use Rattle.reading.specs.declared.Reading.the-variants.{Signs}
-use Rattle.reading.specs.Reading.{scanned, signsOf, counted, readingOf, writtenOf}
+use Rattle.reading.specs.Reading.{scanned, signsOf, counted, readingOf, bufferOf}
 use Rattle.reading.proofs.Scanning.{step, signsFrom, by-count}
 use Rattle.writing.specs.declared.Written.the-variants.{Bytes, Refused}
 use Rattle.writing.specs.Spell.{spell, textOf}
@@ -137,7 +137,7 @@ signs-again ws h = lined ws (all-writable ws h) (textOf (signsIn ws)) [] true (t
 
 -- for every list of words that the writer takes, what it writes is read as these words, into any buffer with room
 pub round-trip : (ws : List ℕ) → Words ws → (room n : ℕ) → writingOf document01 ws room ≡ Bytes n → (out : List ℕ) → length ws ≤ length out
-    → (readingOf document01 (textOf (signsIn ws)) (length out) ≡ Signs (length ws)) × (writtenOf document01 (textOf (signsIn ws)) out ≡ ws ++ drop (length ws) out)
+    → (readingOf document01 (textOf (signsIn ws)) (length out) ≡ Signs (length ws)) × (bufferOf document01 (textOf (signsIn ws)) out ≡ ws ++ drop (length ws) out)
 round-trip ws b room n e out h =
     let text = textOf (signsIn ws) in
     let k = taken ws room n e in
@@ -145,4 +145,4 @@ round-trip ws b room n e out h =
     let size : length (signsOf text) ≡ length ws = ap length (r .0) ∙ length-map ws (λ w. signIn (signOf w)) in
     let c : counted text ≡ Signs (length ws) = rw (size, r .1) in
     let a = by-count document01 text out (k .2) (Signs (length ws)) (Signs (length ws)) c (rw (le-ltb 1024 (length ws) (k .0), le-ltb (length out) (length ws) h)) in
-    (sym (a .0), sym (a .1) ∙ ap (λ x. x ++ drop (length ws) out) (ap (map wordOf) (r .0) ∙ words-again ws b (k .1)))
+    (sym (a .0), sym (a .1 .1) ∙ ap (λ x. x ++ drop (length ws) out) (ap (map wordOf) (r .0) ∙ words-again ws b (k .1)))

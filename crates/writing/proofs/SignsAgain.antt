@@ -25,12 +25,13 @@ use Rattle.signs.specs.Next.{Coming, sign, coming}
 use Rattle.signs.proofs.Gaps.{past-here, there}
 use Rattle.signs.proofs.Table.{upto, below, both-left, both-right}
 use Rattle.signs.proofs.Longest.{orElse, first, longest-first}
-use Rattle.signs.proofs.Scan.{letters-some}
+use Rattle.signs.proofs.Scan.{letters-some, sixteen}
 use Rattle.signs.proofs.Finish.{means-alone}
 use Rattle.signs.proofs.Packing.{Which, a-block, a-time, plain, which, kind-range}
 use Rattle.signs.proofs.Coming.{coming-as}
 use Rattle.writing.specs.Spell.{pairText, spell}
 use Rattle.writing.specs.Writing.{small}
+use Rattle.writing.proofs.Wording.{spell-parts}
 use Rattle.writing.proofs.NumbersAgain.{pair-again}
 
 -- what the writer puts behind a sign: byte 32, or 10 at the end
@@ -65,10 +66,6 @@ each-at : (text post : List ℕ) (at : ℕ) (b : Bool) (ss : List Spelling) (i :
 each-at text post at b [] i h e d = absurd (not-suc-le-zero h)
 each-at text post at b (s ∷ ss) zero h e d = e .0
 each-at text post at b (s ∷ ss) (suc i) h e d = each-at text post at b ss i (le-of-suc-le-suc h) (e .1) d
-
-sixteen : length spellings ≡ 16
-unfolding spellings
-sixteen = refl
 
 -- a sign that carries no number
 plain-again : (text post : List ℕ) (at i : ℕ) (b : Bool) (s : Sign) → i < 16 → spelling i .means ≡ alone s → drop at text ≡ lettersOf i ++ (after b ∷ post)
@@ -121,8 +118,7 @@ not-T-false false t = refl
 
 module _ (s : Sign) (t : T (small document01 s)) (text pre post : List ℕ) (at : ℕ) (b : Bool) (lp : length pre ≡ at) (e : text ≡ pre ++ (spell s ++ (after b ∷ post))) where
   alone-spell : 2 < partsOf s .kind → spell s ≡ lettersOf (partsOf s .kind - 1)
-  unfolding spell
-  alone-spell h = rw (le-ltb (partsOf s .kind) 3 h) (append-nil (lettersOf (partsOf s .kind - 1)))
+  alone-spell h = spell-parts s ∙ rw (le-ltb (partsOf s .kind) 3 h) (append-nil (lettersOf (partsOf s .kind - 1)))
 
   longest-by : Which s → longest text at spellings ≡ Stands s (at + length (spell s))
   unfolding spell spellings
@@ -140,14 +136,13 @@ module _ (s : Sign) (t : T (small document01 s)) (text pre post : List ℕ) (at 
 
   -- the first byte of a sign is no separator
   head-byte : (separator (getD text at 0) ≡ false) × (getD text at 0 ≡ 0 → ⊥)
-  unfolding spell
   head-byte =
       let r = kind-range s in
       let i = partsOf s .kind - 1 in
       let h : i < 16 = omega arith in
       let w = lettersOf i in
       let v = cond (ltb (partsOf s .kind) 3) (pairText (partsOf s .first) (partsOf s .second)) [] in
-      let x : text ≡ pre ++ (w ++ (v ++ (after b ∷ post))) = e ∙ ap (λ u. pre ++ u) (append-assoc w v (after b ∷ post)) in
+      let x : text ≡ pre ++ (w ++ (v ++ (after b ∷ post))) = e ∙ ap (λ u. pre ++ (u ++ (after b ∷ post))) (spell-parts s) ∙ ap (λ u. pre ++ u) (append-assoc w v (after b ∷ post)) in
       let z : length pre + 0 ≡ at = omega arith in
       let g : getD text at 0 ≡ getD w 0 0 =
       rw (x, ← z, getD-append-add pre (w ++ (v ++ (after b ∷ post))) 0 0) (List·getD-append w (v ++ (after b ∷ post)) 0 0 (letters-some i h)) in

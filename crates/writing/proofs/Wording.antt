@@ -1,24 +1,27 @@
 -- What is known of a word that can be written, and how its sign is laid.
 -- Assumes nothing.
+use mathlib.Core.Bool.{cond}
 use mathlib.Core.Path.{_≡_, refl, sym, ap, _∙_}
-use mathlib.Core.List.{List, _++_, append-nil}
+use mathlib.Core.List.{List, [], _++_, append-nil}
 use Prim.Native.Nat.{ℕ, _+_, _-_, _/_, _%_, _≤_, _<_}
 use native.Mathlib.Omega.{arith}
 use borrow.Author.Tests.{lt-ltb, le-ltb}
-use lib.Dec.{T, leb, leb→le}
+use lib.Dec.{T, leb, ltb, leb→le}
 use lib.ListN.{length}
 use Rattle.refusals.specs.Limits.{document01}
+use Rattle.signs.specs.declared.sign.Jumped.the-variants.{Dc, DcCoda, DcFine, Ds, DsCoda, DsFine}
 use Rattle.signs.specs.declared.sign.Sign.{Sign}
+use Rattle.signs.specs.declared.sign.Sign.the-variants.{Block, Time, LeftRepeat, RightRepeat, OpenEnding, CloseEnding, Jump, Segno, Coda, ToCoda, Fine}
 use Rattle.signs.specs.declared.word.Unpacked.{Unpacked}
 use Rattle.signs.specs.declared.word.Unpacked.the-variants.{Packed, Nothing}
-use Rattle.signs.specs.Words.{parts, partsOf, signOf}
-use Rattle.signs.specs.Spellings.{asNumber, lettersOf}
+use Rattle.signs.specs.Words.{Parts, parts, partsOf, signOf}
+use Rattle.signs.specs.Spellings.{spellings, asNumber, lettersOf}
 use Rattle.signs.proofs.Table.{both-left, both-right}
 use Rattle.signs.proofs.Scan.{letters-proper, letters-short}
 use Rattle.signs.proofs.Packing.{word-parts, kind-range}
 use Rattle.writing.specs.Laid.{Laid}
 use Rattle.writing.specs.Letters.{lettersIn}
-use Rattle.writing.specs.Spell.{digits, pairText, spellParts, spell}
+use Rattle.writing.specs.Spell.{digits, pairText, spell}
 use Rattle.writing.specs.Writing.{smallIn, writable, signIn}
 use Rattle.writing.proofs.Lettering.{laid-letters}
 use Rattle.writing.proofs.Decimal.{digits-proper}
@@ -64,11 +67,34 @@ few-digits n = digits-proper 6 n .1
 pub laid-kind : {old new : List ℕ} {at v p : ℕ} (i : ℕ) → i < 16 → v ≡ asNumber (lettersOf i) → Laid old at (lettersIn v) new p → Laid old at (lettersOf i) new p
 laid-kind i h e a = laid-letters (lettersOf i) (letters-proper i h) (omega (arith, letters-short i h)) e a
 
+-- the letters of a kind, and the numbers where it carries them
+abbrev pub spellParts : Parts → List ℕ
+spellParts p = lettersOf (p .kind - 1) ++ cond (ltb (p .kind) 3) (pairText (p .first) (p .second)) []
+
+-- a sign is spelled by its parts: the table has its letters at its kind
+pub spell-parts : (s : Sign) → spell s ≡ spellParts (partsOf s)
+unfolding spell spellings
+spell-parts (Block k l) = refl
+spell-parts (Time m n) = refl
+spell-parts LeftRepeat = refl
+spell-parts RightRepeat = refl
+spell-parts OpenEnding = refl
+spell-parts CloseEnding = refl
+spell-parts (Jump Dc) = refl
+spell-parts (Jump DcCoda) = refl
+spell-parts (Jump DcFine) = refl
+spell-parts (Jump Ds) = refl
+spell-parts (Jump DsCoda) = refl
+spell-parts (Jump DsFine) = refl
+spell-parts Segno = refl
+spell-parts Coda = refl
+spell-parts ToCoda = refl
+spell-parts Fine = refl
+
 -- how the sign of a word is spelled, by the word's parts
 module _ (w : ℕ) (t : T (writable document01 w)) where
   spelled : spell (signIn (signOf w)) ≡ spellParts (parts (w % 256) (w / 256 % 268435456) (w / 68719476736))
-  unfolding spell
-  spelled = let k = writes w t in ap (λ u. spellParts (partsOf (signIn u))) (k .is) ∙ ap spellParts (k .same)
+  spelled = let k = writes w t in ap (λ u. spell (signIn u)) (k .is) ∙ spell-parts (k .the) ∙ ap spellParts (k .same)
 
   pub spelled-alone : 2 < w % 256 → lettersOf (w % 256 - 1) ≡ spell (signIn (signOf w))
   spelled-alone h = sym (spelled ∙ rw (le-ltb (w % 256) 3 h) (append-nil (lettersOf (w % 256 - 1))))

@@ -2,19 +2,20 @@
 -- Assumes nothing.
 use mathlib.Core.Bool.{Bool, true, false, cond}
 use mathlib.Core.List.{List, [], _∷_, _++_, map}
-use Prim.Native.Nat.{ℕ, zero, suc, _+_, _-_, _/_, _%_}
+use Prim.Native.Nat.{ℕ, zero, suc, _+_, _/_, _%_}
 use lib.Dec.{ltb}
+use Rattle.signs.specs.declared.sign.Jumped.{Jumped}
+use Rattle.signs.specs.declared.sign.Jumped.the-variants.{Dc, DcCoda, DcFine, Ds, DsCoda, DsFine}
 use Rattle.signs.specs.declared.sign.Sign.{Sign}
+use Rattle.signs.specs.declared.sign.Sign.the-variants.{Block, Time, LeftRepeat, RightRepeat, OpenEnding, CloseEnding, Jump, Segno, Coda, ToCoda, Fine}
 use Rattle.signs.specs.Bytes.{bytes}
-use Rattle.signs.specs.Words.{Parts, partsOf}
-use Rattle.signs.specs.Spellings.{lettersOf}
 
--- n in decimal, in at most f digits
+-- n in decimal; of a number with more than f digits the last f
 unfoldable pub digitsIn : ℕ → ℕ → List ℕ
 digitsIn zero n = []
 digitsIn (suc f) n = cond (ltb n 10) ((48 + n) ∷ []) (digitsIn f (n / 10) ++ ((48 + n % 10) ∷ []))
 
--- a number of at most six digits
+-- a number of at most six digits, which is all that is written
 abbrev pub digits : ℕ → List ℕ
 digits n = digitsIn 6 n
 
@@ -22,13 +23,27 @@ digits n = digitsIn 6 n
 abbrev pub pairText : ℕ → ℕ → List ℕ
 pairText k l = digits k ++ (bytes "," ++ (digits l ++ bytes ")"))
 
--- the letters of a kind, and the numbers where it carries them
-abbrev pub spellParts : Parts → List ℕ
-spellParts p = lettersOf (p .kind - 1) ++ cond (ltb (p .kind) 3) (pairText (p .first) (p .second)) []
+abbrev pub spellJump : Jumped → List ℕ
+spellJump Dc = bytes "DC"
+spellJump DcCoda = bytes "DC.Coda"
+spellJump DcFine = bytes "DC.Fine"
+spellJump Ds = bytes "DS"
+spellJump DsCoda = bytes "DS.Coda"
+spellJump DsFine = bytes "DS.Fine"
 
 -- a sign as it is written
 unfoldable pub spell : Sign → List ℕ
-spell s = spellParts (partsOf s)
+spell (Block k l) = bytes "(b," ++ pairText k l
+spell (Time m n) = bytes "(ts," ++ pairText m n
+spell LeftRepeat = bytes "|:"
+spell RightRepeat = bytes ":|"
+spell OpenEnding = bytes "["
+spell CloseEnding = bytes "]"
+spell (Jump j) = spellJump j
+spell Segno = bytes "Segno"
+spell Coda = bytes "Coda"
+spell ToCoda = bytes "ToCoda"
+spell Fine = bytes "Fine"
 
 -- one space between signs
 abbrev pub spaced : List (List ℕ) → List ℕ

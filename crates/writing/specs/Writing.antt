@@ -18,22 +18,23 @@ use Rattle.writing.specs.declared.Written.{Written}
 use Rattle.writing.specs.declared.Written.the-variants.{Bytes, Refused}
 use Rattle.writing.specs.Spell.{spell, textOf}
 
--- a sign of which no number is above the largest
+-- two numbers that are not above the largest
 abbrev pub bothSmall : Limits → ℕ → ℕ → Bool
 bothSmall l a b = leb a (l .number) && leb b (l .number)
 
+-- a sign whose numbers are so
 abbrev pub small : Limits → Sign → Bool
 small l s = bothSmall l (partsOf s .first) (partsOf s .second)
 
--- a word that is such a sign
 abbrev pub smallIn : Limits → Unpacked → Bool
 smallIn l (Packed s) = small l s
 smallIn l Nothing = false
 
+-- a word that is such a sign
 abbrev pub writable : Limits → ℕ → Bool
 writable l w = smallIn l (signOf w)
 
--- the sign of a word that is one
+-- the sign of a word that is one (of another, which is never written, Fine)
 abbrev pub signIn : Unpacked → Sign
 signIn (Packed s) = s
 signIn Nothing = Fine
@@ -46,7 +47,7 @@ abbrev pub entryOf : Bool → ℕ → List ℕ
 entryOf true w = spell (signIn (signOf w))
 entryOf false w = 32 ∷ spell (signIn (signOf w))
 
--- what is written of so many bytes: 1 where the text would be too long, 9 where the room is too small
+-- the answer where n bytes are to be written: 1 where the text would be too long, 9 where the room is too small
 abbrev pub fitted : Limits → ℕ → ℕ → Written
 fitted l room n = cond (ltb (l .bytes) n) (Refused TextTooLong) (cond (ltb room n) (Refused (NoRoom n)) (Bytes n))
 
@@ -58,21 +59,28 @@ writingOf l ws room =
     (fitted l room (length (textOf (signsIn ws)))))
 
 -- the bytes in front of the buffer's old content, which a refusal leaves as it was
-abbrev pub leftBy : List ℕ → List ℕ → Written → List ℕ
-leftBy bs out (Refused r) = out
-leftBy bs out (Bytes n) = bs ++ drop n out
+abbrev pub contentBy : List ℕ → List ℕ → Written → List ℕ
+contentBy bs out (Refused r) = out
+contentBy bs out (Bytes n) = bs ++ drop n out
 
-unfoldable pub leftOf : Limits → List ℕ → List ℕ → List ℕ
-leftOf l ws out = leftBy (textOf (signsIn ws)) out (writingOf l ws (length out))
+unfoldable pub contentOf : Limits → List ℕ → List ℕ → List ℕ
+contentOf l ws out = contentBy (textOf (signsIn ws)) out (writingOf l ws (length out))
 
 -- the same for one sign by itself, without a space or a byte 10
-unfoldable pub spellingOf : Limits → Sign → ℕ → Written
-spellingOf l s room = cond (small l s) (fitted l room (length (spell s))) (Refused (Unwritable 0))
+unfoldable pub writingOne : Limits → Sign → ℕ → Written
+writingOne l s room = cond (small l s) (fitted l room (length (spell s))) (Refused (Unwritable 0))
 
-unfoldable pub spelledOf : Limits → Sign → List ℕ → List ℕ
-spelledOf l s out = leftBy (spell s) out (spellingOf l s (length out))
+unfoldable pub contentOne : Limits → Sign → List ℕ → List ℕ
+contentOne l s out = contentBy (spell s) out (writingOne l s (length out))
 
 -- document 01's number and values for each answer: of bytes how many there are
 abbrev pub saidWritten : Limits → Written → Said
 saidWritten l (Bytes n) = said 0 (n ∷ [])
 saidWritten l (Refused r) = saidRefusal l r
+
+-- the same for words, and for a sign, and a buffer's length
+abbrev pub writingSaid : Limits → List ℕ → ℕ → Said
+writingSaid l ws room = saidWritten l (writingOf l ws room)
+
+abbrev pub writingSaidOne : Limits → Sign → ℕ → Said
+writingSaidOne l s room = saidWritten l (writingOne l s room)

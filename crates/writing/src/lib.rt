@@ -2,14 +2,14 @@
 mod put;
 
 ghost use mathlib.Core.Path.{_≡_};
-ghost use Prim.Native.Nat.{_≤_};
+ghost use Prim.Native.Nat.{_≤_, _<_, _^_};
 ghost use lib.Dec.{T};
 ghost use lib.ListN.{length};
 ghost use Rattle.refusals.specs.Limits.{document01};
 ghost use Rattle.signs.specs.Text.{front};
 ghost use Rattle.writing.specs.Spell.{textOf};
 ghost use Rattle.writing.specs.Laid.{Laid};
-ghost use Rattle.writing.specs.Writing.{bothSmall, writable, entryOf, fitted, signsIn, writingOf, leftOf, spellingOf, spelledOf};
+ghost use Rattle.writing.specs.Writing.{bothSmall, writable, entryOf, fitted, signsIn, writingOf, contentOf, writingOne, contentOne, saidWritten, writingSaid, writingSaidOne};
 use put::put_byte;
 use put::put_word;
 use refusals::NUMBER;
@@ -59,7 +59,7 @@ fn writable_front(words: &[u64]) -> usize
 
 // Puts a sign, with a space before it where it is not the first.
 fn put_entry(out: &mut [u8], at: usize, first: bool, word: u64) -> usize
-    requires { ⌜ (at ≤ 31000) × T (writable document01 word) ⌝ }
+    requires { ⌜ (at < 2 ^ 32) × T (writable document01 word) ⌝ }
     ensures { λ r. ⌜ Laid (now (out .entry)) at (entryOf first word) (now (out .exit)) r ⌝ }
 {
     if first {
@@ -85,7 +85,7 @@ fn put_words(out: &mut [u8], words: &[u64]) -> usize
 }
 
 // Whether so many bytes may be written.
-fn fit(needed: usize, room: usize) -> Written
+fn fit(room: usize, needed: usize) -> Written
     ensures { λ r. ⌜ r ≡ fitted document01 room needed ⌝ }
 {
     if refusals::BYTES < needed {
@@ -100,7 +100,8 @@ fn fit(needed: usize, room: usize) -> Written
 // Writes signs into a buffer, which a refusal leaves as it was.
 pub fn write_signs(words: &[u64], out: &mut [u8]) -> Written
     ensures answer { λ r. ⌜ r ≡ writingOf document01 (now (words .entry)) (length (now (out .entry))) ⌝ }
-    ensures buffer { λ _. ⌜ now (out .exit) ≡ leftOf document01 (now (words .entry)) (now (out .entry)) ⌝ }
+    ensures numbers { λ r. ⌜ saidWritten document01 r ≡ writingSaid document01 (now (words .entry)) (length (now (out .entry))) ⌝ }
+    ensures buffer { λ _. ⌜ now (out .exit) ≡ contentOf document01 (now (words .entry)) (now (out .entry)) ⌝ }
 {
     if refusals::SIGNS < words.len() {
         return Written::Refused(Refusal::TooManySigns);
@@ -109,9 +110,10 @@ pub fn write_signs(words: &[u64], out: &mut [u8]) -> Written
     if good < words.len() {
         return Written::Refused(Refusal::Unwritable(good as u64));
     }
+    // laid into a buffer without room for it, the text is only measured
     let mut spare = [0u8; 1];
     let needed = put_words(&mut spare, words);
-    let fits = fit(needed, out.len());
+    let fits = fit(out.len(), needed);
     let Written::Bytes(n) = fits else {
         return fits;
     };
@@ -121,8 +123,9 @@ pub fn write_signs(words: &[u64], out: &mut [u8]) -> Written
 
 // Writes one sign into a buffer, which a refusal leaves as it was.
 pub fn write_sign(sign: Sign, out: &mut [u8]) -> Written
-    ensures answer { λ r. ⌜ r ≡ spellingOf document01 sign (length (now (out .entry))) ⌝ }
-    ensures buffer { λ _. ⌜ now (out .exit) ≡ spelledOf document01 sign (now (out .entry)) ⌝ }
+    ensures answer { λ r. ⌜ r ≡ writingOne document01 sign (length (now (out .entry))) ⌝ }
+    ensures numbers { λ r. ⌜ saidWritten document01 r ≡ writingSaidOne document01 sign (length (now (out .entry))) ⌝ }
+    ensures buffer { λ _. ⌜ now (out .exit) ≡ contentOne document01 sign (now (out .entry)) ⌝ }
 {
     let word = signs::pack(sign);
     if !is_writable(word) {
@@ -130,7 +133,7 @@ pub fn write_sign(sign: Sign, out: &mut [u8]) -> Written
     }
     let mut spare = [0u8; 1];
     let needed = put_word(&mut spare, 0, word);
-    let fits = fit(needed, out.len());
+    let fits = fit(out.len(), needed);
     let Written::Bytes(n) = fits else {
         return fits;
     };

@@ -1,6 +1,6 @@
-// Bytes put into a buffer at a place, as far as there is room; each function answers the place behind them.
+// Bytes put into a buffer at a place, as far as there is room.
 ghost use mathlib.Core.Path.{_≡_};
-ghost use Prim.Native.Nat.{_≤_, _<_};
+ghost use Prim.Native.Nat.{_<_, _^_};
 ghost use lib.Dec.{T};
 ghost use lib.ListN.{set};
 ghost use Rattle.refusals.specs.Limits.{document01};
@@ -20,9 +20,9 @@ pub(crate) fn put_byte(out: &mut [u8], at: usize, b: u8)
     }
 }
 
-// Puts the letters that a number holds.
+// Puts the letters that a number holds, and answers the place behind them.
 fn put_letters(out: &mut [u8], at: usize, letters: u64) -> usize
-    requires { ⌜ at ≤ 65536 ⌝ }
+    requires { ⌜ at < 2 ^ 35 ⌝ }
     ensures { λ r. ⌜ Laid (now (out .entry)) at (lettersIn letters) (now (out .exit)) r ⌝ }
 {
     let mut left = letters;
@@ -49,9 +49,9 @@ fn digit_letters(n: u64) -> u64
     letters * 256 + (48 + v)
 }
 
-// Puts two numbers, a comma between them and a closing bracket behind.
+// Puts two numbers, a comma between them and a closing bracket behind, and answers the place behind that.
 fn put_pair(out: &mut [u8], at: usize, k: u64, l: u64) -> usize
-    requires { ⌜ (at ≤ 32768) × (k < 1000000) × (l < 1000000) ⌝ }
+    requires { ⌜ (at < 2 ^ 34) × (k < 1000000) × (l < 1000000) ⌝ }
     ensures { λ r. ⌜ Laid (now (out .entry)) at (pairText k l) (now (out .exit)) r ⌝ }
 {
     let p = put_letters(out, at, digit_letters(k));
@@ -61,9 +61,9 @@ fn put_pair(out: &mut [u8], at: usize, k: u64, l: u64) -> usize
     q + 1
 }
 
-// Puts the sign that a word packs.
+// Puts the sign that a word packs, and answers the place behind it.
 pub(crate) fn put_word(out: &mut [u8], at: usize, word: u64) -> usize
-    requires { ⌜ (at ≤ 32000) × T (writable document01 word) ⌝ }
+    requires { ⌜ (at < 2 ^ 33) × T (writable document01 word) ⌝ }
     ensures { λ r. ⌜ Laid (now (out .entry)) at (spell (signIn (signOf word))) (now (out .exit)) r ⌝ }
 {
     let kind = word % 256;

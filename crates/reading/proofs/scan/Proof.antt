@@ -20,7 +20,7 @@ abbrev μ-loop : tie.MeasureT-loop
 
 -- the answer is what comes
 came : (c : tie.After-next-sign Inv-loop μ-loop) → answered (coming (c .before .before .before .before .args .text .now) (c .before .loop .at)) ≡ c .next-sign .result
-came c = sym (c .next-sign .ensures ∙ next-short document01 (c .before .before .before .before .args .text .now) (c .before .loop .at) (c .before .before .before .before .pre))
+came c = sym (c .next-sign .ensures .0 ∙ next-short document01 (c .before .before .before .before .args .text .now) (c .before .loop .at) (c .before .before .before .before .pre))
 
 loop-holds : tie.Need-loop-holds Inv-loop μ-loop
 loop-holds c = let a = c .before .before .args in none-read (a .text .now) (a .words .now)

@@ -10,7 +10,7 @@ use Rattle.refusals.specs.Limits.{document01}
 use Rattle.signs.specs.Words.{signOf}
 use Rattle.writing.specs.declared.Written.the-variants.{Bytes}
 use Rattle.writing.specs.Spell.{spell}
-use Rattle.writing.specs.Writing.{small, writable, signIn, fitted}
+use Rattle.writing.specs.Writing.{small, writable, signIn, fitted, saidWritten}
 use Rattle.writing.proofs.Lettering.{laid-as, laid-length}
 use Rattle.writing.proofs.Lining.{writable-sign, sign-in, no-spelling, spells-by, fitted-bytes, in-front}
 use borrow.Author.Needs.{needs}
@@ -40,7 +40,7 @@ put-word-requires : tie.Need-put-word-requires
 put-word-requires c κs = (omega arith, can (c .before))
 
 returns-2 : tie.Need-returns-2
-returns-2 c = let a = c .before .before .before .before .before .before .before .before .before .before .args in let e = c .enum-told .given .1 in let b = spells-by document01 (a .sign) (a .out .now) (is-small (c .before .before .before .before .before .before)) _ (measured (c .before .before .before .before)) _ (sym e ∙ c .before .before .fit .ensures) in (e ∙ b .0, b .1)
+returns-2 c = let a = c .before .before .before .before .before .before .before .before .before .before .args in let e = c .enum-told .given .1 in let b = spells-by document01 (a .sign) (a .out .now) (is-small (c .before .before .before .before .before .before)) _ (measured (c .before .before .before .before)) _ (sym e ∙ c .before .before .fit .ensures) in (e ∙ b .0, (ap (saidWritten document01) e ∙ b .1 .0, b .1 .1))
 
 put-word-requires-2 : tie.Need-put-word-requires-2
 put-word-requires-2 c κs = (omega arith, can (c .before .before .before .before .before .before .before .before))
@@ -49,7 +49,7 @@ same-length : tie.Need-same-length
 same-length c = laid-length (c .before .before .put-word2 .ensures)
 
 returns-3 : tie.Need-returns-3
-returns-3 c = let a = c .before .before .before .before .before .before .before .before .before .before .before .before .before .before .before .args in let n = c .before .before .before .before .before .fits2 .given .0 .0 in let e = c .before .before .before .before .before .fits2 .given .1 in let f = fitted-bytes document01 (length (a .out .now)) (c .before .before .before .before .before .before .before .before .before .put-word .result) n (sym (c .before .before .before .before .before .before .before .fit .ensures) ∙ e) in let b = spells-by document01 (a .sign) (a .out .now) (is-small (c .before .before .before .before .before .before .before .before .before .before .before)) n (measured (c .before .before .before .before .before .before .before .before .before) ∙ f .0) (Bytes n) (sym e ∙ c .before .before .before .before .before .before .before .fit .ensures ∙ ap (fitted document01 (length (a .out .now))) (f .0)) in (b .0, in-front (a .out .now) (spell (a .sign)) _ _ (laid-as (spelled (c .before .before .before .before .before .before .before .before .before .before .before)) (c .before .before .put-word2 .ensures)) n (measured (c .before .before .before .before .before .before .before .before .before) ∙ f .0) (f .1) ∙ b .1)
+returns-3 c = let a = c .before .before .before .before .before .before .before .before .before .before .before .before .before .before .before .args in let n = c .before .before .before .before .before .fits2 .given .0 .0 in let e = c .before .before .before .before .before .fits2 .given .1 in let f = fitted-bytes document01 (length (a .out .now)) (c .before .before .before .before .before .before .before .before .before .put-word .result) n (sym (c .before .before .before .before .before .before .before .fit .ensures) ∙ e) in let b = spells-by document01 (a .sign) (a .out .now) (is-small (c .before .before .before .before .before .before .before .before .before .before .before)) n (measured (c .before .before .before .before .before .before .before .before .before) ∙ f .0) (Bytes n) (sym e ∙ c .before .before .before .before .before .before .before .fit .ensures ∙ ap (fitted document01 (length (a .out .now))) (f .0)) in (b .0, (b .1 .0, in-front (a .out .now) (spell (a .sign)) _ _ (laid-as (spelled (c .before .before .before .before .before .before .before .before .before .before .before)) (c .before .before .put-word2 .ensures)) n (measured (c .before .before .before .before .before .before .before .before .before) ∙ f .0) (f .1) ∙ b .1 .1))
 
 pub write-sign-spec : {M : Type 1} → statement M
 write-sign-spec =

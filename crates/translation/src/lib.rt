@@ -1,0 +1,1 @@
+// The listing of a score, and that a run of it plays the score.
