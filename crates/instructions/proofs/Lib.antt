@@ -4,5 +4,5 @@ pub mod Least
 mod Arms
 pub mod Marks
 pub mod Listings
-mod Tables
-mod Passed
+pub mod Tables
+pub mod Passed

@@ -26,11 +26,11 @@ use Rattle.instructions.proofs.Least.{never, least-first}
 use Rattle.instructions.proofs.Marks.{Form, is-block, is-loop, is-rep, is-lb, is-jmp, is-njmp, form, inside, loop-there, rep-there, label-there, there-loop, there-rep, there-label, at-first, not-before}
 use Rattle.instructions.proofs.Passed.{too-far}
 
-and-true : (a b : Bool) → (a && b) ≡ true → (a ≡ true) × (b ≡ true)
+pub and-true : (a b : Bool) → (a && b) ≡ true → (a ≡ true) × (b ≡ true)
 and-true true b e = (refl, e)
 and-true false b e = never false e refl
 
-within-true : (a b x : ℕ) → within a b x ≡ true → Outside a b x → ⊥
+pub within-true : (a b x : ℕ) → within a b x ≡ true → Outside a b x → ⊥
 within-true a b x e (inl h) = let l : a ≤ x = leb-true a x (and-true (leb a x) (leb x b) e .0) in omega arith
 within-true a b x e (inr h) = let l : x ≤ b = leb-true x b (and-true (leb a x) (leb x b) e .1) in omega arith
 
@@ -52,7 +52,7 @@ module _ (l : Limits) (listing : List ℕ) where
     pub label-low : labelOf x < l .labels
     pub obeyed : Obeys i x ≡ true
 
-  kept : (i : ℕ) → keeps l listing i ≡ true → (x : Instruction) → At listing i x → Keeps i x
+  pub kept : (i : ℕ) → keeps l listing i ≡ true → (x : Instruction) → At listing i x → Keeps i x
   unfolding keeps
   kept i e x a =
       let p = and-true (ltb i (l .instructions)) _ e in
@@ -62,13 +62,13 @@ module _ (l : Limits) (listing : List ℕ) where
       record { near = ltb-true _ _ (p .0); loop-low = ltb-true _ _ (s .0); label-low = ltb-true _ _ (s .1); obeyed = r .1 }
 
   -- a loop's mark stands where its first mark does, its one `rep` behind it
-  kept-loop : (i L : ℕ) → keeps l listing i ≡ true → At listing i (loop L) → (loopPlace listing L ≡ i) × (i < repPlace listing L) × (repPlace listing L < length listing)
+  pub kept-loop : (i L : ℕ) → keeps l listing i ≡ true → At listing i (loop L) → (loopPlace listing L ≡ i) × (i < repPlace listing L) × (repPlace listing L < length listing)
   kept-loop i L e a =
       let p = and-true (eqb (loopPlace listing L) i && ltb i (repPlace listing L)) (ltb (repPlace listing L) (length listing)) (kept i e (loop L) a .obeyed) in
       let q = and-true (eqb (loopPlace listing L) i) (ltb i (repPlace listing L)) (p .0) in
       (eqb-true _ _ (q .0), ltb-true _ _ (q .1), ltb-true _ _ (p .1))
 
-  kept-rep : (i L T : ℕ) → keeps l listing i ≡ true → At listing i (rep L T) → (within 1 (l .times) T ≡ true) × (loopPlace listing L < i) × (repPlace listing L ≡ i)
+  pub kept-rep : (i L T : ℕ) → keeps l listing i ≡ true → At listing i (rep L T) → (within 1 (l .times) T ≡ true) × (loopPlace listing L < i) × (repPlace listing L ≡ i)
   kept-rep i L T e a =
       let p = and-true (within 1 (l .times) T && ltb (loopPlace listing L) i) (eqb (repPlace listing L) i) (kept i e (rep L T) a .obeyed) in
       let q = and-true (within 1 (l .times) T) (ltb (loopPlace listing L) i) (p .0) in
@@ -89,7 +89,7 @@ module _ (l : Limits) (listing : List ℕ) where
   kept-names i L T e (by-jmp B a) = let k = kept-jump i L T B (jmp L T B) e a refl in (k .0, k .1)
   kept-names i L T e (by-njmp B a) = let k = kept-jump i L T B (njmp L T B) e a refl in (k .0, k .1)
 
-  kept-jumps : (i B : ℕ) → keeps l listing i ≡ true → Jumps listing i B → labelPlace listing B < length listing
+  pub kept-jumps : (i B : ℕ) → keeps l listing i ≡ true → Jumps listing i B → labelPlace listing B < length listing
   kept-jumps i B e (jmp-to L T a) = kept-jump i L T B (jmp L T B) e a refl .2
   kept-jumps i B e (njmp-to L T a) = kept-jump i L T B (njmp L T B) e a refl .2
 
@@ -103,14 +103,14 @@ module _ (l : Limits) (listing : List ℕ) where
   behind-label : (i B : ℕ) → At listing i (lb B) → labelPlace listing B ≤ i
   behind-label i B a = let h : (i < labelPlace listing B → ⊥) = λ lt. not-before labelMark listing B i lt (there-label listing B i a) in omega arith
 
-  none-kept : (i : ℕ) → unpacked (getD listing i 0) ≡ Nothing → keeps l listing i ≡ true → ⊥
+  pub none-kept : (i : ℕ) → unpacked (getD listing i 0) ≡ Nothing → keeps l listing i ≡ true → ⊥
   unfolding keeps
   none-kept i n e =
       let p = and-true (ltb i (l .instructions)) _ e in
       let q : false ≡ true = rw n at (p .1) in
       never false q refl
 
-  kept-block : (i k n : ℕ) → keeps l listing i ≡ true → At listing i (block k n) → (within 1 (l .number) n ≡ true) × (k ≤ l .number)
+  pub kept-block : (i k n : ℕ) → keeps l listing i ≡ true → At listing i (block k n) → (within 1 (l .number) n ≡ true) × (k ≤ l .number)
   kept-block i k n e a = let p = and-true (within 1 (l .number) n) (leb k (l .number)) (kept i e (block k n) a .obeyed) in (p .0, leb-true _ _ (p .1))
 
   names-inside : (i L T : ℕ) → Names listing i L T → i < length listing
@@ -118,13 +118,17 @@ module _ (l : Limits) (listing : List ℕ) where
   names-inside i L T (by-jmp B a) = inside listing i (jmp L T B) a
   names-inside i L T (by-njmp B a) = inside listing i (njmp L T B) a
 
+  -- a label's mark stands where its first does
+  pub kept-label : (i B : ℕ) → keeps l listing i ≡ true → At listing i (lb B) → labelPlace listing B ≡ i
+  kept-label i B e a = eqb-true _ _ (kept i e (lb B) a .obeyed)
+
   broken : (i : ℕ) → Breaks l listing i → keeps l listing i ≡ true → ⊥
   broken i (beyond h far) e = never (keeps l listing i) e (too-far l listing i far)
   broken i (unreadable h n) e = none-kept i n e
   broken i (high-loop x a h) e = let k = kept i e x a .loop-low in omega arith
   broken i (high-label x a h) e = let k = kept i e x a .label-low in omega arith
   broken i (loop-again L j a lt b) e = let k = kept-loop i L e a in let m = behind-loop j L b in omega arith
-  broken i (label-again B j a lt b) e = let k : labelPlace listing B ≡ i = eqb-true _ _ (kept i e (lb B) a .obeyed) in let m = behind-label j B b in omega arith
+  broken i (label-again B j a lt b) e = let k = kept-label i B e a in let m = behind-label j B b in omega arith
   broken i (no-rep L a none) e =
       let k = kept-loop i L e a in
       let (T, r) = rep-there listing L (repPlace listing L) (at-first loopRepeat listing L (k .2)) in
@@ -301,6 +305,20 @@ module _ (l : Limits) (listing : List ℕ) where
       go : (t : Bool) → ltb (firstBreak l listing) (length listing) ≡ t → Right l listing (cond t (Refused (BadListing (firstBreak l listing))) Good)
       go true e = refused (firstBreak l listing) (is-first (ltb-true _ _ e))
       go false e = good (λ i b. none-before i (let h : length listing ≤ firstBreak l listing = ltb-false _ _ e in omega (arith, breaks-inside i b)) b)
+
+  -- in a good listing every instruction keeps the rules
+  pub all-kept : testListing l listing ≡ Good → (i : ℕ) → i < length listing → keeps l listing i ≡ true
+  unfolding testListing
+  all-kept = go (ltb (firstBreak l listing) (length listing)) refl
+    where
+      go : (t : Bool)
+          → ltb (firstBreak l listing) (length listing) ≡ t
+          → cond t (Refused (BadListing (firstBreak l listing))) Good ≡ Good
+          → (i : ℕ)
+          → i < length listing
+          → keeps l listing i ≡ true
+      go true p e i h = let z : _≡_ {A = ℕ} 0 1 = cc in absurd (omega arith)
+      go false p e i h = not-false (keeps l listing i) (found .before i (omega arith) (let m : length listing ≤ firstBreak l listing = ltb-false _ _ p in omega arith))
 
   -- and any two right answers are equal
   first-same : (i j : ℕ) → First l listing i → First l listing j → i ≡ j

@@ -42,7 +42,7 @@ decoded-form w =
     (either (eqb (w % 2 ^ 8) 4) _ _ (is-lb _)
     (either (eqb (w % 2 ^ 8) 5) _ _ (is-jmp _ _ _) (is-njmp _ _ _)))))
 
-is-decoded : (w : ℕ) (x : Instruction) → unpacked w ≡ Is x → decoded w ≡ x
+pub is-decoded : (w : ℕ) (x : Instruction) → unpacked w ≡ Is x → decoded w ≡ x
 unfolding unpacked
 is-decoded w x = go (eqb w 0) (eqb (packed (decoded w)) w)
   where

@@ -3,6 +3,7 @@
 use mathlib.Core.Path.{_≡_, refl, sym, ap, ap₂, _∙_}
 use mathlib.Core.Bool.{Bool, true, false, not, _&&_}
 use mathlib.Core.List.{List}
+use mathlib.Core.Option.{Option}
 use Prim.Native.Nat.{ℕ, _+_, _≤_, _<_}
 use native.Mathlib.Omega.{arith}
 use lib.ListN.{length, getD}
@@ -17,7 +18,7 @@ use Rattle.instructions.specs.declared.listing.Tested.the-variants.{Good
 use Rattle.instructions.specs.declared.listing.Checked.{Checked}
 use Rattle.instructions.specs.Forms.{loopOf, labelOf}
 use Rattle.instructions.specs.Words.{unpacked}
-use Rattle.instructions.specs.Places.{loopMark, loopRepeat, labelMark, loopPlace, repPlace, labelPlace}
+use Rattle.instructions.specs.Places.{loopMark, loopRepeat, labelMark, firstPlace, loopPlace, repPlace, labelPlace}
 use Rattle.instructions.specs.Test.{obeys, keptBy, keeps, firstBreak, testListing, table, checking}
 use Rattle.instructions.specs.Tables.{at, Filled, Tabled}
 use Rattle.instructions.proofs.Least.{first-is-least}
@@ -76,14 +77,22 @@ module _ (l : Limits) (listing : List ℕ) where
       first-is-least (λ i. not (keeps l listing i)) (length listing) i
       (record { low = omega arith; high = le; before = λ j a b. ap not (h j b); found = λ lt. ap not (e lt) })
 
--- the answer, with the table of loop marks
-module _ (l : Limits) (listing marks : List ℕ) (long : length marks ≡ l .loops) (filled : Filled loopMark listing 0 marks) where
-  marks-are : marks ≡ table (l .loops) (loopPlace listing)
-  marks-are = table-is (l .loops) (loopPlace listing) marks long (λ x lt. filled-all loopMark listing marks x filled (omega arith))
+-- a filled table is the table of the first places
+table-of : (k : ℕ) (named : Unpacked → Option ℕ) (listing entries : List ℕ) → length entries ≡ k → Filled named listing 0 entries → entries ≡ table k (firstPlace named listing)
+table-of k named listing entries long filled = table-is k (firstPlace named listing) entries long (λ x lt. filled-all named listing entries x filled (omega arith))
 
-  pub checked : (t : Tested) → t ≡ testListing l listing → record { tested = t; marks = marks } ≡ checking l listing
-  unfolding checking
-  checked t e = ap₂ {C = Checked} (λ a b. record { tested = a; marks = b }) e marks-are
+-- the answer, with the tables of loop marks and `rep`s
+pub checked : (l : Limits) (listing marks reps : List ℕ) (t : Tested)
+    → length marks ≡ l .loops
+    → length reps ≡ l .loops
+    → Filled loopMark listing 0 marks
+    → Filled loopRepeat listing 0 reps
+    → t ≡ testListing l listing
+    → record { tested = t; marks = marks; reps = reps } ≡ checking l listing
+unfolding checking
+checked l listing marks reps t m r a b e =
+    ap (λ (x : Tested). record { tested = x; marks = marks; reps = reps }) e
+    ∙ ap₂ {C = Checked} (λ x y. record { tested = testListing l listing; marks = x; reps = y }) (table-of (l .loops) loopMark listing marks m a) (table-of (l .loops) loopRepeat listing reps r b)
 
 module _ (l : Limits) (listing : List ℕ) (i : ℕ) (e : i ≡ firstBreak l listing) where
   pub is-bad : i < length listing → Refused (BadListing i) ≡ testListing l listing

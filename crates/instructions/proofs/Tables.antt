@@ -86,3 +86,9 @@ table-is zero f [] e h = refl
 table-is zero f (x ∷ xs) e h = absurd (omega arith)
 table-is (suc n) f [] e h = absurd (omega arith)
 table-is (suc n) f (x ∷ xs) e h = ap₂ _∷_ (h 0 (omega arith)) (table-is n (λ k. f (suc k)) xs (omega arith) (λ k lt. h (suc k) (omega arith)))
+
+pub table-at : (n : ℕ) (f : ℕ → ℕ) (x : ℕ) → x < n → getD (table n f) x 0 ≡ f x
+unfolding table
+table-at zero f x h = absurd (omega arith)
+table-at (suc n) f zero h = refl
+table-at (suc n) f (suc x) h = table-at n (λ k. f (suc k)) x (omega arith)

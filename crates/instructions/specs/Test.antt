@@ -68,6 +68,11 @@ unfoldable pub table : ℕ → (ℕ → ℕ) → List ℕ
 table zero f = []
 table (suc n) f = f zero ∷ table n (λ k. f (suc k))
 
--- the answer, with the place of each loop's mark
+-- the answer, with the places of each loop's mark and `rep`
 unfoldable pub checking : Limits → List ℕ → Checked
-checking l listing = record { tested = testListing l listing; marks = table (l .loops) (loopPlace listing) }
+checking l listing =
+    record {
+      tested = testListing l listing;
+      marks = table (l .loops) (loopPlace listing);
+      reps = table (l .loops) (repPlace listing);
+    }

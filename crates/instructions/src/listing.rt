@@ -27,10 +27,11 @@ pub enum Tested {
     Refused(Refusal),
 }
 
-// The answer, and beside it the place of each loop's first mark; the listing's length where it has none.
+// The answer, and beside it the places of each loop's first mark and first `rep`; the listing's length where it has none.
 pub struct Checked {
     pub tested: Tested,
     pub marks: [usize; LOOPS],
+    pub reps: [usize; LOOPS],
 }
 
 // The loop that the word marks.
@@ -229,7 +230,7 @@ fn first_break(
     n
 }
 
-// Test 11, with the place of each loop's mark.
+// Test 11, with the places of each loop's mark and `rep`.
 pub fn check(listing: &[u64]) -> Checked
     ensures { λ r. ⌜ r ≡ checking document01 (now (listing .entry)) ⌝ }
 {
@@ -243,11 +244,13 @@ pub fn check(listing: &[u64]) -> Checked
         Checked {
             tested: Tested::Refused(Refusal::BadListing(i as u64)),
             marks,
+            reps,
         }
     } else {
         Checked {
             tested: Tested::Good,
             marks,
+            reps,
         }
     }
 }

@@ -4,6 +4,7 @@ mod limits;
 pub use limits::BEAT;
 pub use limits::BLOCKS;
 pub use limits::BYTES;
+pub use limits::DEPTH;
 pub use limits::INSTRUCTIONS;
 pub use limits::LABELS;
 pub use limits::LOOPS;

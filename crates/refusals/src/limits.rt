@@ -9,6 +9,9 @@ pub const SIGNS: usize = 1024;
 // The largest number that a sign or a block carries.
 pub const NUMBER: u32 = 999999;
 
+// The written left repeats that are open around a sign.
+pub const DEPTH: usize = 8;
+
 // The loops of a score or a listing, numbered from 0.
 pub const LOOPS: usize = 64;
 

@@ -9,7 +9,10 @@ use native.Mathlib.Nat.{mul-le-mul-left}
 use lib.ListN.{length, length-append}
 use Rattle.signs.specs.declared.sign.Sign.{Sign}
 use Rattle.score.specs.Trees.{Leaf, Run, nil, _▸_, Item, leaf, repeat, group, Ends, no-more, _then_}
-use Rattle.score.specs.Shapes.{Shape, straight, dc, ds, dcFine, dsFine, dcCoda, dsCoda, Time, Score, score}
+use Rattle.score.specs.declared.Shape.{Shape}
+use Rattle.score.specs.declared.Shape.the-variants.{Straight, DaCapo, DalSegno, DaCapoFine, DalSegnoFine, DaCapoCoda, DalSegnoCoda}
+use Rattle.score.specs.declared.Time.{Time}
+use Rattle.score.specs.Shapes.{Score, score}
 use Rattle.score.specs.Spelling.{leftSigns, runSigns, itemSigns, endsSigns, signsOf}
 use Rattle.score.specs.Readings.{Some, inside, startAfter, Good, GoodItem, GoodEnds, Valid}
 use Rattle.score.specs.Played.{runPlays, itemPlays, endsPlay, plays}
@@ -84,15 +87,15 @@ full-fits r start f = run-fits r start (f .1) .0
 
 shape-fits : (implied : Bool) (t : Time) (h : Shape) (a b c d : Run) → Valid implied (score t h a b c d)
     → steps (score t h a b c d) ≤ length (plays (score t h a b c d)) * (2 * length (signsOf (score t h a b c d))) + 5
-shape-fits implied t straight a b c d g = let p = full-fits a implied (g .0) in simp length-append (omega arith)
-shape-fits implied t dc a b c d g = let p = full-fits a implied (g .0) in simp length-append (omega arith)
-shape-fits implied t ds a b c d g = let p = full-fits a implied (g .0) in let q = full-fits b false (g .1) in simp length-append (omega arith)
-shape-fits implied t dcFine a b c d g = let p = full-fits a implied (g .0) in let q = full-fits b false (g .1) in simp length-append (omega arith)
-shape-fits implied t dsFine a b c d g =
+shape-fits implied t Straight a b c d g = let p = full-fits a implied (g .0) in simp length-append (omega arith)
+shape-fits implied t DaCapo a b c d g = let p = full-fits a implied (g .0) in simp length-append (omega arith)
+shape-fits implied t DalSegno a b c d g = let p = full-fits a implied (g .0) in let q = full-fits b false (g .1) in simp length-append (omega arith)
+shape-fits implied t DaCapoFine a b c d g = let p = full-fits a implied (g .0) in let q = full-fits b false (g .1) in simp length-append (omega arith)
+shape-fits implied t DalSegnoFine a b c d g =
     let p = full-fits a implied (g .0) in let q = full-fits b false (g .1) in let r = full-fits c false (g .2) in simp length-append (omega arith)
-shape-fits implied t dcCoda a b c d g =
+shape-fits implied t DaCapoCoda a b c d g =
     let p = full-fits a implied (g .0) in let q = full-fits b false (g .1) in let r = full-fits c false (g .2) in simp length-append (omega arith)
-shape-fits implied t dsCoda a b c d g =
+shape-fits implied t DalSegnoCoda a b c d g =
     let p = full-fits a implied (g .0) in
     let q = full-fits b false (g .1) in
     let r = full-fits c false (g .2) in

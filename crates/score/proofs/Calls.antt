@@ -6,14 +6,17 @@ use Prim.Native.Nat.{ℕ, suc, _+_, _*_}
 use native.Mathlib.Omega.{arith}
 use lib.ListN.{length}
 use Rattle.score.specs.Trees.{Leaf, Run, nil, _▸_, Item, leaf, repeat, group, Ends, no-more, _then_}
-use Rattle.score.specs.Shapes.{Letter, letterOf, Turn, lettersOf, table, Shape, straight, dc, ds, dcFine, dsFine, dcCoda, dsCoda, Time, Score, score, runOf}
+use Rattle.score.specs.declared.Shape.{Shape}
+use Rattle.score.specs.declared.Shape.the-variants.{Straight, DaCapo, DalSegno, DaCapoFine, DalSegnoFine, DaCapoCoda, DalSegnoCoda}
+use Rattle.score.specs.declared.Time.{Time}
+use Rattle.score.specs.Shapes.{Letter, letterOf, Turn, lettersOf, table, Score, score, runOf}
 use Rattle.score.specs.Played.{runPlays, itemPlays, endsPlay, turnsPlay, plays, beats}
 use Rattle.score.specs.Steps.{count}
 use Rattle.score.specs.Calls.{Call, runCalls, itemCalls, endsCalls, timesOf, lettersCalls, calls}
 use Rattle.score.specs.Sums.{total, called, each, only}
 
 module _ (w : Leaf → ℕ) where
-  total-append : (u v : List Leaf) → total w (u ++ v) ≡ total w u + total w v
+  pub total-append : (u v : List Leaf) → total w (u ++ v) ≡ total w u + total w v
   total-append [] v = omega arith
   total-append (x ∷ u) v = let e = total-append u v in omega arith
 
@@ -78,13 +81,13 @@ module _ (w : Leaf → ℕ) where
 
   shape-balance : (t : Time) (h : Shape) (a b c d : Run) → written (score t h a b c d) (lettersOf (table h .signs)) ≡ heard (score t h a b c d) (table h .plays)
   unfolding written heard
-  shape-balance t straight a b c d = omega arith
-  shape-balance t dc a b c d = omega arith
-  shape-balance t ds a b c d = omega arith
-  shape-balance t dcFine a b c d = omega arith
-  shape-balance t dsFine a b c d = omega arith
-  shape-balance t dcCoda a b c d = omega arith
-  shape-balance t dsCoda a b c d = omega arith
+  shape-balance t Straight a b c d = omega arith
+  shape-balance t DaCapo a b c d = omega arith
+  shape-balance t DalSegno a b c d = omega arith
+  shape-balance t DaCapoFine a b c d = omega arith
+  shape-balance t DalSegnoFine a b c d = omega arith
+  shape-balance t DaCapoCoda a b c d = omega arith
+  shape-balance t DalSegnoCoda a b c d = omega arith
 
   -- Whatever the blocks weigh, the played list weighs as much as the calls.
   pub balance : (t : Score) → total w (plays t) ≡ called w (calls t)
@@ -92,7 +95,7 @@ module _ (w : Leaf → ℕ) where
       let s : Score = score t h a b c d in
       turns-total s (table h .plays) ∙ sym (shape-balance t h a b c d) ∙ sym (letters-called s (lettersOf (table h .signs)))
 
-total-each : (l : List Leaf) → total each l ≡ length l
+pub total-each : (l : List Leaf) → total each l ≡ length l
 total-each [] = refl
 total-each (x ∷ l) = let e = total-each l in omega arith
 

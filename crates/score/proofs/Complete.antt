@@ -8,7 +8,11 @@ use Rattle.signs.specs.declared.sign.Jumped.the-variants.{Dc, DcCoda, DcFine, D
 use Rattle.signs.specs.declared.sign.Sign.{Sign}
 use Rattle.signs.specs.declared.sign.Sign.the-variants.{Jump, Segno, Coda, ToCoda, Fine}
 use Rattle.score.specs.Trees.{block, Left, written, lacking, Run, nil, _▸_, Item, leaf, repeat, group, Ends, no-more, _then_}
-use Rattle.score.specs.Shapes.{Shape, straight, dc, ds, dcFine, dsFine, dcCoda, dsCoda, Time, untimed, timed, Score, score, table}
+use Rattle.score.specs.declared.Shape.{Shape}
+use Rattle.score.specs.declared.Shape.the-variants.{Straight, DaCapo, DalSegno, DaCapoFine, DalSegnoFine, DaCapoCoda, DalSegnoCoda}
+use Rattle.score.specs.declared.Time.{Time}
+use Rattle.score.specs.declared.Time.the-variants.{Untimed, Timed}
+use Rattle.score.specs.Shapes.{Score, score, table}
 use Rattle.score.specs.Spelling.{leftSigns, runSigns, itemSigns, endsSigns, spelled, signsOf}
 use Rattle.score.specs.Readings.{Some, SomeEnds, May, inside, startAfter, endsClosingGroup, Good, GoodItem, GoodEnds, Valid}
 use Rattle.score.proofs.Alphabet.{Mark, to-dc, to-dc-coda, to-dc-fine, to-ds, to-ds-coda, to-ds-fine, at-segno, at-to-coda, at-fine, Kind, plays, time, opens, closes, left, right, mark, strange, signKind, kinds}
@@ -241,32 +245,32 @@ module _ (implied : Bool) where
 
   shape-reads : (t : Time) (h : Shape) (a b c d : Run) → Valid implied (score t h a b c d)
       → run (at (bot (inA t)) nil) (kinds (spelled (score t h a b c d) (table h .signs))) ≡ some (score t h a b c d)
-  shape-reads t straight a b c d g = last-run (inA t) a (g .0) ∙ none-left t straight a b c d (g .1) (g .2) (g .3)
-  shape-reads t dc a b c d g = leave-run to-dc (inA t) a [] (Jump Dc) refl (g .0) ∙ none-left t dc a b c d (g .1) (g .2) (g .3)
-  shape-reads t ds a b c d g =
+  shape-reads t Straight a b c d g = last-run (inA t) a (g .0) ∙ none-left t Straight a b c d (g .1) (g .2) (g .3)
+  shape-reads t DaCapo a b c d g = leave-run to-dc (inA t) a [] (Jump Dc) refl (g .0) ∙ none-left t DaCapo a b c d (g .1) (g .2) (g .3)
+  shape-reads t DalSegno a b c d g =
       leave-run at-segno (inA t) a (runSigns b ++ (Jump Ds ∷ [])) Segno refl (g .0)
       ∙ leave-run to-ds (later (inB-ds t a)) b [] (Jump Ds) refl (g .1)
-      ∙ none-left t ds a b c d refl (g .2) (g .3)
-  shape-reads t dcFine a b c d g =
+      ∙ none-left t DalSegno a b c d refl (g .2) (g .3)
+  shape-reads t DaCapoFine a b c d g =
       leave-run at-fine (inA t) a (runSigns b ++ (Jump DcFine ∷ [])) Fine refl (g .0)
       ∙ leave-run to-dc-fine (later (inB-fine t a)) b [] (Jump DcFine) refl (g .1)
-      ∙ none-left t dcFine a b c d refl (g .2) (g .3)
-  shape-reads t dsFine a b c d g =
+      ∙ none-left t DaCapoFine a b c d refl (g .2) (g .3)
+  shape-reads t DalSegnoFine a b c d g =
       leave-run at-segno (inA t) a (runSigns b ++ (Fine ∷ (runSigns c ++ (Jump DsFine ∷ [])))) Segno refl (g .0)
       ∙ leave-run at-fine (later (inB-ds t a)) b (runSigns c ++ (Jump DsFine ∷ [])) Fine refl (g .1)
       ∙ leave-run to-ds-fine (later (inC-fine t a b)) c [] (Jump DsFine) refl (g .2)
-      ∙ none-left t dsFine a b c d refl refl (g .3)
-  shape-reads t dcCoda a b c d g =
+      ∙ none-left t DalSegnoFine a b c d refl refl (g .3)
+  shape-reads t DaCapoCoda a b c d g =
       leave-run at-to-coda (inA t) a (runSigns b ++ (Jump DcCoda ∷ Coda ∷ (runSigns c ++ []))) ToCoda refl (g .0)
       ∙ leave-run to-dc-coda (later (inB-coda t a)) b (Coda ∷ (runSigns c ++ [])) (Jump DcCoda) refl (g .1)
       ∙ last-run (later (inC-dc t a b)) c (g .2)
-      ∙ none-left t dcCoda a b c d refl refl (g .3)
-  shape-reads t dsCoda a b c d g =
+      ∙ none-left t DaCapoCoda a b c d refl refl (g .3)
+  shape-reads t DalSegnoCoda a b c d g =
       leave-run at-segno (inA t) a (runSigns b ++ (ToCoda ∷ (runSigns c ++ (Jump DsCoda ∷ Coda ∷ (runSigns d ++ []))))) Segno refl (g .0)
       ∙ leave-run at-to-coda (later (inB-ds t a)) b (runSigns c ++ (Jump DsCoda ∷ Coda ∷ (runSigns d ++ []))) ToCoda refl (g .1)
       ∙ leave-run to-ds-coda (later (inC-coda t a b)) c (Coda ∷ (runSigns d ++ [])) (Jump DsCoda) refl (g .2)
       ∙ last-run (later (inD t a b c)) d (g .3)
 
   pub reads-all : (t : Score) → Valid implied t → run start (kinds (signsOf t)) ≡ some t
-  reads-all (score untimed h a b c d) g = shape-reads untimed h a b c d g
-  reads-all (score (timed m n) h a b c d) g = shape-reads (timed m n) h a b c d g
+  reads-all (score Untimed h a b c d) g = shape-reads Untimed h a b c d g
+  reads-all (score (Timed m n) h a b c d) g = shape-reads (Timed m n) h a b c d g

@@ -5,7 +5,10 @@ use mathlib.Core.Option.{Option, none, some}
 use mathlib.Core.List.{List, [], _∷_}
 use Prim.Native.Nat.{ℕ, suc}
 use Rattle.score.specs.Trees.{Left, written, lacking, Run, nil, _▸_, leaf, repeat, group, Ends, no-more, _then_}
-use Rattle.score.specs.Shapes.{straight, dc, ds, dcFine, dsFine, dcCoda, dsCoda, Time, untimed, timed, Score, score}
+use Rattle.score.specs.declared.Shape.the-variants.{Straight, DaCapo, DalSegno, DaCapoFine, DalSegnoFine, DaCapoCoda, DalSegnoCoda}
+use Rattle.score.specs.declared.Time.{Time}
+use Rattle.score.specs.declared.Time.the-variants.{Untimed, Timed}
+use Rattle.score.specs.Shapes.{Score, score}
 use Rattle.score.specs.Readings.{Answer, reading, refused}
 use Rattle.score.proofs.Alphabet.{Mark, to-dc, to-dc-coda, to-dc-fine, to-ds, to-ds-coda, to-ds-fine, at-segno, at-coda, at-to-coda, at-fine, Mark-discrete, Kind, plays, time, opens, closes, left, right, mark, strange}
 
@@ -41,7 +44,7 @@ pub data Found : Type 0 where
   found : Left → Run → Stack → Found
 
 abbrev pub start : State
-start = at (bot (inA untimed)) nil
+start = at (bot (inA Untimed)) nil
 
 -- the repeat that a `:|` or a `[` would belong to
 abbrev pub lack : Bool → Time → Option Found
@@ -76,8 +79,8 @@ on-closes implied K (b ▸ group o m es e) = some (sep K o b m es e)
 
 -- a time sign stands at the very start
 abbrev pub on-time-part : ℕ → ℕ → Part → Option State
-on-time-part m n (inA untimed) = some (at (bot (inA (timed m n))) nil)
-on-time-part m n (inA (timed k l)) = none
+on-time-part m n (inA Untimed) = some (at (bot (inA (Timed m n))) nil)
+on-time-part m n (inA (Timed k l)) = none
 on-time-part m n (later p) = none
 
 abbrev pub on-time : ℕ → ℕ → Stack → Run → Option State
@@ -93,17 +96,17 @@ pub data Edge : Type 0 where
 infix 70 _to_
 abbrev pub later-edges : Later → Run → List Edge
 later-edges (inB-ds t a) r =
-    to-ds to wait (over (score t ds a r nil nil)) ∷ at-fine to at (bot (later (inC-fine t a r))) nil ∷ at-to-coda to at (bot (later (inC-coda t a r))) nil ∷ []
-later-edges (inB-fine t a) r = to-dc-fine to wait (over (score t dcFine a r nil nil)) ∷ []
+    to-ds to wait (over (score t DalSegno a r nil nil)) ∷ at-fine to at (bot (later (inC-fine t a r))) nil ∷ at-to-coda to at (bot (later (inC-coda t a r))) nil ∷ []
+later-edges (inB-fine t a) r = to-dc-fine to wait (over (score t DaCapoFine a r nil nil)) ∷ []
 later-edges (inB-coda t a) r = to-dc-coda to wait (coda-dc t a r) ∷ []
-later-edges (inC-fine t a b) r = to-ds-fine to wait (over (score t dsFine a b r nil)) ∷ []
+later-edges (inC-fine t a b) r = to-ds-fine to wait (over (score t DalSegnoFine a b r nil)) ∷ []
 later-edges (inC-coda t a b) r = to-ds-coda to wait (coda-ds t a b r) ∷ []
 later-edges (inC-dc t a b) r = []
 later-edges (inD t a b c) r = []
 
 abbrev pub edges : Part → Run → List Edge
 edges (inA t) r =
-    to-dc to wait (over (score t dc r nil nil nil)) ∷ at-segno to at (bot (later (inB-ds t r))) nil ∷ at-fine to at (bot (later (inB-fine t r))) nil ∷ at-to-coda to at (bot (later (inB-coda t r))) nil ∷ []
+    to-dc to wait (over (score t DaCapo r nil nil nil)) ∷ at-segno to at (bot (later (inB-ds t r))) nil ∷ at-fine to at (bot (later (inB-fine t r))) nil ∷ at-to-coda to at (bot (later (inB-coda t r))) nil ∷ []
 edges (later p) r = later-edges p r
 
 abbrev pub wait-edges : Wait → List Edge
@@ -181,11 +184,11 @@ finish-later (inB-fine t a) r = none
 finish-later (inB-coda t a) r = none
 finish-later (inC-fine t a b) r = none
 finish-later (inC-coda t a b) r = none
-finish-later (inC-dc t a b) r = some (score t dcCoda a b r nil)
-finish-later (inD t a b c) r = some (score t dsCoda a b c r)
+finish-later (inC-dc t a b) r = some (score t DaCapoCoda a b r nil)
+finish-later (inD t a b c) r = some (score t DalSegnoCoda a b c r)
 
 abbrev pub finish-part : Part → Run → Option Score
-finish-part (inA t) r = some (score t straight r nil nil nil)
+finish-part (inA t) r = some (score t Straight r nil nil nil)
 finish-part (later p) r = finish-later p r
 
 abbrev pub finish-at : Stack → Run → Option Score

@@ -7,7 +7,9 @@ use Prim.Native.Nat.{ℕ, zero, suc, _+_, _-_}
 use lib.ListN.{length}
 use Rattle.signs.specs.declared.word.Unpacked.{Unpacked}
 use Rattle.score.specs.Trees.{Left, written, lacking, Run, nil, _▸_, Item, leaf, repeat, group, Ends, no-more, _then_}
-use Rattle.score.specs.Shapes.{Time, untimed, timed, Score}
+use Rattle.score.specs.declared.Time.{Time}
+use Rattle.score.specs.declared.Time.the-variants.{Untimed, Timed}
+use Rattle.score.specs.Shapes.{Score}
 use Rattle.score.specs.Readings.{isGroup, Answer, reading, refused}
 use Rattle.score.proofs.Alphabet.{Kind, plays, time, opens, closes, left, right, mark, strange, kindOf}
 use Rattle.score.proofs.Machine.{Part, inA, Wait, bot, in-rep, in-end, State, at, half, sep, wait, edges, wait-edges, find, finish-part, finish}
@@ -229,15 +231,15 @@ read-start implied t (mark j ∷ l) = stop (mark j ∷ l)
 read-start implied t (strange ∷ l) = stop (strange ∷ l)
 
 abbrev pub read-score : Bool → List Kind → Fin
-read-score implied [] = read-start implied untimed []
-read-score implied (plays q ∷ l) = read-start implied untimed (plays q ∷ l)
-read-score implied (time x y ∷ l) = read-start implied (timed x y) l
-read-score implied (opens ∷ l) = read-start implied untimed (opens ∷ l)
-read-score implied (closes ∷ l) = read-start implied untimed (closes ∷ l)
-read-score implied (left ∷ l) = read-start implied untimed (left ∷ l)
-read-score implied (right ∷ l) = read-start implied untimed (right ∷ l)
-read-score implied (mark j ∷ l) = read-start implied untimed (mark j ∷ l)
-read-score implied (strange ∷ l) = read-start implied untimed (strange ∷ l)
+read-score implied [] = read-start implied Untimed []
+read-score implied (plays q ∷ l) = read-start implied Untimed (plays q ∷ l)
+read-score implied (time x y ∷ l) = read-start implied (Timed x y) l
+read-score implied (opens ∷ l) = read-start implied Untimed (opens ∷ l)
+read-score implied (closes ∷ l) = read-start implied Untimed (closes ∷ l)
+read-score implied (left ∷ l) = read-start implied Untimed (left ∷ l)
+read-score implied (right ∷ l) = read-start implied Untimed (right ∷ l)
+read-score implied (mark j ∷ l) = read-start implied Untimed (mark j ∷ l)
+read-score implied (strange ∷ l) = read-start implied Untimed (strange ∷ l)
 
 -- the place of what is left
 abbrev pub answer : List Kind → Fin → Answer

@@ -10,7 +10,9 @@ use native.Mathlib.Nat.{le-refl, le-trans}
 use lib.ListN.{length}
 use Rattle.signs.specs.declared.word.Unpacked.{Unpacked}
 use Rattle.score.specs.Trees.{written, lacking, Run, nil, _▸_, Item, leaf, repeat, no-more}
-use Rattle.score.specs.Shapes.{Time, untimed, timed, Score}
+use Rattle.score.specs.declared.Time.{Time}
+use Rattle.score.specs.declared.Time.the-variants.{Untimed, Timed}
+use Rattle.score.specs.Shapes.{Score}
 use Rattle.score.specs.Readings.{Some, startAfter, isGroup, endsInGroup, closesGroup, endsClosingGroup, Good, GoodItem, Answer, reading, refused, Right}
 use Rattle.score.proofs.Alphabet.{Mark, Mark-discrete, Kind, plays, time, opens, closes, left, right as right-end, mark, strange, kindOf}
 use Rattle.score.proofs.Machine.{Later, inB-ds, inB-fine, inB-coda, inC-fine, inC-coda, inC-dc, inD, Part, inA, later, Wait, coda-dc, coda-ds, over, bot, in-rep, in-end, State, at, half, sep, wait}
@@ -81,8 +83,8 @@ on-top (some u) l F G h k = k u h
 abbrev Timely : Time → List Kind → Type 0
 Timely t [] = Unit {0}
 Timely t (plays x ∷ l) = Unit {0}
-Timely untimed (time x y ∷ l) = ⊥
-Timely (timed m n) (time x y ∷ l) = Unit {0}
+Timely Untimed (time x y ∷ l) = ⊥
+Timely (Timed m n) (time x y ∷ l) = Unit {0}
 Timely t (opens ∷ l) = Unit {0}
 Timely t (closes ∷ l) = Unit {0}
 Timely t (left ∷ l) = Unit {0}
@@ -90,7 +92,7 @@ Timely t (right-end ∷ l) = Unit {0}
 Timely t (mark j ∷ l) = Unit {0}
 Timely t (strange ∷ l) = Unit {0}
 
-timely : (m n : ℕ) (l : List Kind) → Timely (timed m n) l
+timely : (m n : ℕ) (l : List Kind) → Timely (Timed m n) l
 timely m n [] = tt
 timely m n (plays x ∷ l) = tt
 timely m n (time x y ∷ l) = tt
@@ -262,8 +264,8 @@ module _ (implied : Bool) where
   start-ok : (t : Time) (l : List Kind) → Timely t l → read-start implied t l ≡ runs implied (at (bot (inA t)) nil) l
   start-ok t [] h = refl
   start-ok t (plays x ∷ l) h = from-first t (leaf x) l tt (enter-none l)
-  start-ok untimed (time x y ∷ l) h = absurd h
-  start-ok (timed m n) (time x y ∷ l) h = refl
+  start-ok Untimed (time x y ∷ l) h = absurd h
+  start-ok (Timed m n) (time x y ∷ l) h = refl
   start-ok t (opens ∷ l) h = start-item-ok t l (read-group (fuel l) l) (read-group-ok implied (fuel l) l (omega arith))
   start-ok t (closes ∷ l) h = refl
   start-ok t (left ∷ l) h = refl
@@ -273,9 +275,9 @@ module _ (implied : Bool) where
 
   read-score-ok : (l : List Kind) → read-score implied l ≡ runs implied start l
   read-score-ok [] = refl
-  read-score-ok (plays x ∷ l) = start-ok untimed (plays x ∷ l) tt
-  read-score-ok (time x y ∷ l) = start-ok (timed x y) l (timely x y l)
-  read-score-ok (opens ∷ l) = start-ok untimed (opens ∷ l) tt
+  read-score-ok (plays x ∷ l) = start-ok Untimed (plays x ∷ l) tt
+  read-score-ok (time x y ∷ l) = start-ok (Timed x y) l (timely x y l)
+  read-score-ok (opens ∷ l) = start-ok Untimed (opens ∷ l) tt
   read-score-ok (closes ∷ l) = refl
   read-score-ok (left ∷ l) = refl
   read-score-ok (right-end ∷ l) = refl

@@ -10,7 +10,9 @@ use Rattle.signs.specs.declared.sign.Sign.{Sign}
 use Rattle.signs.specs.declared.sign.Sign.the-variants.{LeftRepeat, RightRepeat, OpenEnding, CloseEnding, Jump, Segno, Coda, ToCoda, Fine}
 use Rattle.signs.specs.declared.sign.Sign.the-variants.{Time as TimeSign}
 use Rattle.score.specs.Trees.{Left, Run, nil, _▸_, leaf, repeat, group, Ends, no-more, _then_}
-use Rattle.score.specs.Shapes.{Time, untimed, timed, Score}
+use Rattle.score.specs.declared.Time.{Time}
+use Rattle.score.specs.declared.Time.the-variants.{Untimed, Timed}
+use Rattle.score.specs.Shapes.{Score}
 use Rattle.score.specs.Spelling.{leftSigns, runSigns, endsSigns, timeSigns, signsOf}
 use Rattle.score.specs.Readings.{Some, May, inside, startAfter, endsInGroup, endsClosingGroup, Good, GoodEnds, Valid}
 use Rattle.score.proofs.Alphabet.{Mark, Mark-discrete, markSign, Kind, plays, time, opens, closes, left, right, mark, strange, spelt}
@@ -161,8 +163,8 @@ module _ (implied : Bool) where
       (simp append-assoc, (c .0, (c .1, (c .2, c .3, c .4, c .5, tt, c .6, s, g)), refl))
 
   time-ok : (m n : ℕ) (K : Stack) (r : Run) → OkStack implied K → All (Has implied (stack-signs K ++ (runSigns r ++ (TimeSign m n ∷ [])))) (on-time m n K r)
-  time-ok m n (bot (inA untimed)) nil c = (refl, (tt, tt, refl))
-  time-ok m n (bot (inA (timed k l))) nil c = tt
+  time-ok m n (bot (inA Untimed)) nil c = (refl, (tt, tt, refl))
+  time-ok m n (bot (inA (Timed k l))) nil c = tt
   time-ok m n (bot (later p)) nil c = tt
   time-ok m n (bot p) (r ▸ i) c = tt
   time-ok m n (in-rep b K) r c = tt

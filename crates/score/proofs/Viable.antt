@@ -9,7 +9,8 @@ use Rattle.signs.specs.declared.sign.Sign.the-variants.{RightRepeat, OpenEnding
 use Rattle.signs.specs.declared.word.Unpacked.{Unpacked}
 use Rattle.signs.specs.declared.word.Unpacked.the-variants.{Packed}
 use Rattle.score.specs.Trees.{block, Left, written, Run, nil, _▸_, leaf, repeat, group, Ends, no-more, _then_}
-use Rattle.score.specs.Shapes.{straight, ds, dcFine, dsFine, dcCoda, dsCoda, Score, score}
+use Rattle.score.specs.declared.Shape.the-variants.{Straight, DalSegno, DaCapoFine, DalSegnoFine, DaCapoCoda, DalSegnoCoda}
+use Rattle.score.specs.Shapes.{Score, score}
 use Rattle.score.specs.Spelling.{runSigns, signsOf}
 use Rattle.score.specs.Readings.{Some, Good, Valid, Begins}
 use Rattle.score.proofs.Machine.{Later, inB-ds, inB-fine, inB-coda, inC-fine, inC-coda, inC-dc, inD, Part, inA, later, coda-dc, coda-ds, over, Stack, bot, in-rep, in-end, State, at, half, sep, wait}
@@ -48,22 +49,22 @@ module _ (implied : Bool) where
       (record { tree = t; rest = []; reads = record { valid = v; same = sym (append-nil (map Packed (signsOf t))) } })
 
   begins-later : (p : Later) (r : Run) → OkLater implied p → Full false r → Opens (part-signs (later p) ++ runSigns r)
-  begins-later (inB-ds t a) r c f = whole (part-signs (later (inB-ds t a)) ++ runSigns r) (Jump Ds ∷ []) (score t ds a r nil nil) (c, f, refl, refl) (simp append-assoc)
+  begins-later (inB-ds t a) r c f = whole (part-signs (later (inB-ds t a)) ++ runSigns r) (Jump Ds ∷ []) (score t DalSegno a r nil nil) (c, f, refl, refl) (simp append-assoc)
   begins-later (inB-fine t a) r c f =
-      whole (part-signs (later (inB-fine t a)) ++ runSigns r) (Jump DcFine ∷ []) (score t dcFine a r nil nil) (c, f, refl, refl) (simp append-assoc)
+      whole (part-signs (later (inB-fine t a)) ++ runSigns r) (Jump DcFine ∷ []) (score t DaCapoFine a r nil nil) (c, f, refl, refl) (simp append-assoc)
   begins-later (inB-coda t a) r c f =
-      whole (part-signs (later (inB-coda t a)) ++ runSigns r) (Jump DcCoda ∷ Coda ∷ runSigns fill) (score t dcCoda a r fill nil) (c, f, (tt, (tt, tt)), refl) (simp append-assoc)
+      whole (part-signs (later (inB-coda t a)) ++ runSigns r) (Jump DcCoda ∷ Coda ∷ runSigns fill) (score t DaCapoCoda a r fill nil) (c, f, (tt, (tt, tt)), refl) (simp append-assoc)
   begins-later (inC-fine t a b) r c f =
-      whole (part-signs (later (inC-fine t a b)) ++ runSigns r) (Jump DsFine ∷ []) (score t dsFine a b r nil) (c .0, c .1, f, refl) (simp append-assoc)
+      whole (part-signs (later (inC-fine t a b)) ++ runSigns r) (Jump DsFine ∷ []) (score t DalSegnoFine a b r nil) (c .0, c .1, f, refl) (simp append-assoc)
   begins-later (inC-coda t a b) r c f =
-      whole (part-signs (later (inC-coda t a b)) ++ runSigns r) (Jump DsCoda ∷ Coda ∷ runSigns fill) (score t dsCoda a b r fill) (c .0, c .1, f, (tt, (tt, tt))) (simp append-assoc)
+      whole (part-signs (later (inC-coda t a b)) ++ runSigns r) (Jump DsCoda ∷ Coda ∷ runSigns fill) (score t DalSegnoCoda a b r fill) (c .0, c .1, f, (tt, (tt, tt))) (simp append-assoc)
   begins-later (inC-dc t a b) r c f =
-      whole (part-signs (later (inC-dc t a b)) ++ runSigns r) [] (score t dcCoda a b r nil) (c .0, c .1, f, refl) (simp (append-assoc, append-nil))
+      whole (part-signs (later (inC-dc t a b)) ++ runSigns r) [] (score t DaCapoCoda a b r nil) (c .0, c .1, f, refl) (simp (append-assoc, append-nil))
   begins-later (inD t a b d) r c f =
-      whole (part-signs (later (inD t a b d)) ++ runSigns r) [] (score t dsCoda a b d r) (c .0, c .1, c .2, f) (simp (append-assoc, append-nil))
+      whole (part-signs (later (inD t a b d)) ++ runSigns r) [] (score t DalSegnoCoda a b d r) (c .0, c .1, c .2, f) (simp (append-assoc, append-nil))
 
   begins-part : (p : Part) (r : Run) → OkPart implied p → Full (flag-part implied p) r → Opens (part-signs p ++ runSigns r)
-  begins-part (inA t) r c f = whole (part-signs (inA t) ++ runSigns r) [] (score t straight r nil nil nil) (f, refl, refl, refl) (simp append-nil)
+  begins-part (inA t) r c f = whole (part-signs (inA t) ++ runSigns r) [] (score t Straight r nil nil nil) (f, refl, refl, refl) (simp append-nil)
   begins-part (later p) r c f = begins-later p r c f
 
   begins-stack : (K : Stack) (r : Run) → OkStack implied K → Some r → Good r (flag implied K) → Opens (stack-signs K ++ runSigns r)
@@ -97,7 +98,7 @@ module _ (implied : Bool) where
       less (sig (sep K o b m es e)) (OpenEnding ∷ (runSigns fill ++ (CloseEnding ∷ []))) (stack-signs K ++ runSigns (b ▸ group o m (es then e) fill)) (simp append-assoc)
       (begins-ends K o b m es e (c .0) (c .1))
   begins (wait (coda-dc t a b)) c =
-      whole (wait-signs (coda-dc t a b)) (Coda ∷ runSigns fill) (score t dcCoda a b fill nil) (c .0, c .1, (tt, (tt, tt)), refl) (simp append-assoc)
+      whole (wait-signs (coda-dc t a b)) (Coda ∷ runSigns fill) (score t DaCapoCoda a b fill nil) (c .0, c .1, (tt, (tt, tt)), refl) (simp append-assoc)
   begins (wait (coda-ds t a b d)) c =
-      whole (wait-signs (coda-ds t a b d)) (Coda ∷ runSigns fill) (score t dsCoda a b d fill) (c .0, c .1, c .2, (tt, (tt, tt))) (simp append-assoc)
+      whole (wait-signs (coda-ds t a b d)) (Coda ∷ runSigns fill) (score t DalSegnoCoda a b d fill) (c .0, c .1, c .2, (tt, (tt, tt))) (simp append-assoc)
   begins (wait (over t)) c = whole (signsOf t) [] t c (sym (append-nil (signsOf t)))

@@ -7,7 +7,10 @@ use Prim.Native.Nat.{ℕ, suc, _*_}
 use Rattle.signs.specs.declared.sign.Sign.{Sign}
 use Rattle.signs.specs.declared.sign.Sign.the-variants.{Block, Time, LeftRepeat, RightRepeat, OpenEnding, CloseEnding, Jump, Segno, Coda, ToCoda, Fine}
 use Rattle.score.specs.Trees.{block, Left, written, lacking, Run, nil, _▸_, Item, leaf, repeat, group, Ends, no-more, _then_}
-use Rattle.score.specs.Shapes.{Shape, straight, dc, ds, dcFine, dsFine, dcCoda, dsCoda, table, untimed, timed, Score, score, timeOf, untimedOf}
+use Rattle.score.specs.declared.Shape.{Shape}
+use Rattle.score.specs.declared.Shape.the-variants.{Straight, DaCapo, DalSegno, DaCapoFine, DalSegnoFine, DaCapoCoda, DalSegnoCoda}
+use Rattle.score.specs.declared.Time.the-variants.{Untimed, Timed}
+use Rattle.score.specs.Shapes.{table, Score, score, timeOf, untimedOf}
 use Rattle.score.specs.Spelling.{leftSigns, runSigns, itemSigns, endsSigns, timeSigns, signsOf, spelled}
 use Rattle.score.specs.Readings.{Valid}
 use Rattle.score.specs.Played.{played}
@@ -37,8 +40,8 @@ left-leaves written = refl
 left-leaves lacking = refl
 
 time-leaves : (t : _) → leaves (timeSigns t) ≡ []
-time-leaves untimed = refl
-time-leaves (timed m n) = refl
+time-leaves Untimed = refl
+time-leaves (Timed m n) = refl
 
 mutual
   run-leaves : (r : Run) (f : ℕ) → leaves (runSigns r) ≡ names (runCalls r f)
@@ -56,13 +59,13 @@ mutual
   ends-leaves (es then e) f = simp (leaves-append, names-append, append-nil, ends-leaves es f, run-leaves e f)
 
 shape-leaves : (t : _) (h : Shape) (a b c d : Run) → leaves (spelled (score t h a b c d) (table h .signs)) ≡ names (calls (score t h a b c d))
-shape-leaves t straight a b c d = simp (leaves-append, names-append, run-leaves a 1)
-shape-leaves t dc a b c d = simp (leaves-append, names-append, run-leaves a 2)
-shape-leaves t ds a b c d = simp (leaves-append, names-append, run-leaves a 1, run-leaves b 2)
-shape-leaves t dcFine a b c d = simp (leaves-append, names-append, run-leaves a 2, run-leaves b 1)
-shape-leaves t dsFine a b c d = simp (leaves-append, names-append, run-leaves a 1, run-leaves b 2, run-leaves c 1)
-shape-leaves t dcCoda a b c d = simp (leaves-append, names-append, run-leaves a 2, run-leaves b 1, run-leaves c 1)
-shape-leaves t dsCoda a b c d = simp (leaves-append, names-append, run-leaves a 1, run-leaves b 2, run-leaves c 1, run-leaves d 1)
+shape-leaves t Straight a b c d = simp (leaves-append, names-append, run-leaves a 1)
+shape-leaves t DaCapo a b c d = simp (leaves-append, names-append, run-leaves a 2)
+shape-leaves t DalSegno a b c d = simp (leaves-append, names-append, run-leaves a 1, run-leaves b 2)
+shape-leaves t DaCapoFine a b c d = simp (leaves-append, names-append, run-leaves a 2, run-leaves b 1)
+shape-leaves t DalSegnoFine a b c d = simp (leaves-append, names-append, run-leaves a 1, run-leaves b 2, run-leaves c 1)
+shape-leaves t DaCapoCoda a b c d = simp (leaves-append, names-append, run-leaves a 2, run-leaves b 1, run-leaves c 1)
+shape-leaves t DalSegnoCoda a b c d = simp (leaves-append, names-append, run-leaves a 1, run-leaves b 2, run-leaves c 1, run-leaves d 1)
 
 -- The calls name the block signs in order, one each: adjacent blocks stay separate.
 pub block-signs : (t : Score) → leaves (signsOf t) ≡ names (calls t)
@@ -76,10 +79,10 @@ Alike implied t u =
 
 -- A score means the same without its time sign.
 pub untimed-alike : (implied : Bool) (t : Score) → Alike implied t (untimedOf t)
-untimed-alike implied (score t straight a b c d) = ((λ v. v), refl, refl, refl, refl)
-untimed-alike implied (score t dc a b c d) = ((λ v. v), refl, refl, refl, refl)
-untimed-alike implied (score t ds a b c d) = ((λ v. v), refl, refl, refl, refl)
-untimed-alike implied (score t dcFine a b c d) = ((λ v. v), refl, refl, refl, refl)
-untimed-alike implied (score t dsFine a b c d) = ((λ v. v), refl, refl, refl, refl)
-untimed-alike implied (score t dcCoda a b c d) = ((λ v. v), refl, refl, refl, refl)
-untimed-alike implied (score t dsCoda a b c d) = ((λ v. v), refl, refl, refl, refl)
+untimed-alike implied (score t Straight a b c d) = ((λ v. v), refl, refl, refl, refl)
+untimed-alike implied (score t DaCapo a b c d) = ((λ v. v), refl, refl, refl, refl)
+untimed-alike implied (score t DalSegno a b c d) = ((λ v. v), refl, refl, refl, refl)
+untimed-alike implied (score t DaCapoFine a b c d) = ((λ v. v), refl, refl, refl, refl)
+untimed-alike implied (score t DalSegnoFine a b c d) = ((λ v. v), refl, refl, refl, refl)
+untimed-alike implied (score t DaCapoCoda a b c d) = ((λ v. v), refl, refl, refl, refl)
+untimed-alike implied (score t DalSegnoCoda a b c d) = ((λ v. v), refl, refl, refl, refl)

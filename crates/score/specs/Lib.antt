@@ -1,8 +1,12 @@
 pub mod Calls
+pub mod Depth
+pub mod Examined
+pub mod Numbers
 pub mod Played
 pub mod Readings
 pub mod Scores
 pub mod Shapes
+pub mod Sizes
 pub mod Spelling
 pub mod Steps
 pub mod Sums

@@ -1,7 +1,9 @@
 -- The played list: for each block played k, l and z.
 -- Assumes nothing.
-use mathlib.Core.List.{List, [], _∷_, _++_}
-use Prim.Native.Nat.{ℕ, _+_}
+use mathlib.Core.List.{List, [], _∷_, _++_, map}
+use Prim.Native.Nat.{ℕ}
+use Rattle.played.specs.declared.Played.{Played}
+use Rattle.played.specs.Played.{Block, entries}
 use Rattle.score.specs.Trees.{Leaf, block, Run, nil, _▸_, Item, leaf, repeat, group, Ends, no-more, _then_}
 use Rattle.score.specs.Shapes.{Turn, letterOf, table, Score, shapeOf, runOf}
 
@@ -29,23 +31,17 @@ turnsPlay t (x ∷ xs) = runPlays (runOf t (letterOf x)) ++ turnsPlay t xs
 abbrev pub plays : Score → List Leaf
 plays t = turnsPlay t (table (shapeOf t) .plays)
 
--- an entry of the played list
-pub record Played : Type 0 where
-  pub k : ℕ
-  pub l : ℕ
-  pub z : ℕ
+-- the block that a leaf plays
+abbrev pub blockOf : Leaf → Block
+blockOf (block k l) = record { k = k; l = l }
 
 -- the beats of a leaf
 abbrev pub beats : Leaf → ℕ
-beats (block k l) = l
+beats x = blockOf x .l
 
-abbrev entry : Leaf → ℕ → Played
-entry (block k l) z = record { k = k; l = l; z = z }
-
--- the entries, the first at performed beat z, each where the one before ends
-abbrev pub entries : ℕ → List Leaf → List Played
-entries z [] = []
-entries z (x ∷ xs) = entry x z ∷ entries (z + beats x) xs
+-- the blocks that a score plays
+abbrev pub heard : Score → List Block
+heard t = map blockOf (plays t)
 
 abbrev pub played : Score → List Played
-played t = entries 0 (plays t)
+played t = entries 0 (heard t)

@@ -9,7 +9,8 @@ use lib.Dec.{T}
 use Rattle.signs.specs.declared.word.Unpacked.{Unpacked}
 use Rattle.signs.specs.declared.word.Unpacked.the-variants.{Packed}
 use Rattle.score.specs.Trees.{Left, written, lacking, Run, nil, _▸_, Item, leaf, repeat, group, Ends, no-more, _then_}
-use Rattle.score.specs.Shapes.{Letter, A, B, C, D, Shape, table, Score, score, lettersOf, times}
+use Rattle.score.specs.declared.Shape.{Shape}
+use Rattle.score.specs.Shapes.{Letter, A, B, C, D, table, Score, score, lettersOf, times}
 use Rattle.score.specs.Spelling.{signsOf}
 
 -- one or more items

@@ -10,7 +10,9 @@ use Rattle.signs.specs.declared.sign.Sign.the-variants.{Block, Time, LeftRepeat
 use Rattle.signs.specs.declared.word.Unpacked.the-variants.{Packed}
 use Rattle.score.specs.Trees.{Leaf, block}
 use Rattle.score.specs.Readings.{Answer, reading, refused, Right}
-use Rattle.score.specs.Played.{Played, entries, played}
+use Rattle.played.specs.declared.Played.{Played}
+use Rattle.played.specs.Played.{entries}
+use Rattle.score.specs.Played.{blockOf, played}
 use Rattle.score.specs.Steps.{steps}
 
 -- what is said of a score: its played list and steps, or the place of the refusal
@@ -28,7 +30,7 @@ pub record Row : Type 0 where
 
 -- a row that plays these blocks in so many steps
 abbrev plays : List Sign → List Leaf → ℕ → Row
-plays s l n = record { signs = s; said = heard (entries 0 l) n }
+plays s l n = record { signs = s; said = heard (entries 0 (map blockOf l)) n }
 
 -- a row that is refused at a place
 abbrev refuses : List Sign → ℕ → Row

@@ -7,6 +7,10 @@ use lib.Dec.{eqb}
 use Rattle.signs.specs.declared.sign.Jumped.the-variants.{Dc, DcCoda, DcFine, Ds, DsCoda, DsFine}
 use Rattle.signs.specs.declared.sign.Sign.{Sign}
 use Rattle.signs.specs.declared.sign.Sign.the-variants.{Jump, Segno, Coda, ToCoda, Fine}
+use Rattle.score.specs.declared.Shape.{Shape}
+use Rattle.score.specs.declared.Shape.the-variants.{Straight, DaCapo, DalSegno, DaCapoFine, DalSegnoFine, DaCapoCoda, DalSegnoCoda}
+use Rattle.score.specs.declared.Time.{Time}
+use Rattle.score.specs.declared.Time.the-variants.{Untimed}
 use Rattle.score.specs.Trees.{Run}
 
 -- The runs of a shape go by letters.
@@ -28,26 +32,18 @@ pub record Row : Type 0 where
   pub plays : List Turn
   pub steps : ℕ
 
-pub data Shape : Type 0 where
-  straight dc ds dcFine dsFine dcCoda dsCoda : Shape
-
 abbrev row : List Piece → List Turn → ℕ → Row
 row s p n = record { signs = s; plays = p; steps = n }
 
 -- The table.
 abbrev pub table : Shape → Row
-table straight = row (run A ∷ []) (first A ∷ []) 0
-table dc = row (run A ∷ sign (Jump Dc) ∷ []) (first A ∷ again A ∷ []) 3
-table ds = row (run A ∷ sign Segno ∷ run B ∷ sign (Jump Ds) ∷ []) (first A ∷ first B ∷ again B ∷ []) 3
-table dcFine = row (run A ∷ sign Fine ∷ run B ∷ sign (Jump DcFine) ∷ []) (first A ∷ first B ∷ again A ∷ []) 5
-table dsFine = row (run A ∷ sign Segno ∷ run B ∷ sign Fine ∷ run C ∷ sign (Jump DsFine) ∷ []) (first A ∷ first B ∷ first C ∷ again B ∷ []) 5
-table dcCoda = row (run A ∷ sign ToCoda ∷ run B ∷ sign (Jump DcCoda) ∷ sign Coda ∷ run C ∷ []) (first A ∷ first B ∷ again A ∷ first C ∷ []) 5
-table dsCoda = row (run A ∷ sign Segno ∷ run B ∷ sign ToCoda ∷ run C ∷ sign (Jump DsCoda) ∷ sign Coda ∷ run D ∷ []) (first A ∷ first B ∷ first C ∷ again B ∷ first D ∷ []) 5
-
--- The time sign of a score, if it has one.
-pub data Time : Type 0 where
-  untimed : Time
-  timed : ℕ → ℕ → Time
+table Straight = row (run A ∷ []) (first A ∷ []) 0
+table DaCapo = row (run A ∷ sign (Jump Dc) ∷ []) (first A ∷ again A ∷ []) 3
+table DalSegno = row (run A ∷ sign Segno ∷ run B ∷ sign (Jump Ds) ∷ []) (first A ∷ first B ∷ again B ∷ []) 3
+table DaCapoFine = row (run A ∷ sign Fine ∷ run B ∷ sign (Jump DcFine) ∷ []) (first A ∷ first B ∷ again A ∷ []) 5
+table DalSegnoFine = row (run A ∷ sign Segno ∷ run B ∷ sign Fine ∷ run C ∷ sign (Jump DsFine) ∷ []) (first A ∷ first B ∷ first C ∷ again B ∷ []) 5
+table DaCapoCoda = row (run A ∷ sign ToCoda ∷ run B ∷ sign (Jump DcCoda) ∷ sign Coda ∷ run C ∷ []) (first A ∷ first B ∷ again A ∷ first C ∷ []) 5
+table DalSegnoCoda = row (run A ∷ sign Segno ∷ run B ∷ sign ToCoda ∷ run C ∷ sign (Jump DsCoda) ∷ sign Coda ∷ run D ∷ []) (first A ∷ first B ∷ first C ∷ again B ∷ first D ∷ []) 5
 
 -- A score is its time, its shape, and the runs A, B, C and D, of which those that its shape lacks are empty.
 pub data Score : Type 0 where
@@ -61,7 +57,7 @@ shapeOf (score t h a b c d) = h
 
 -- the score without its time sign
 abbrev pub untimedOf : Score → Score
-untimedOf (score t h a b c d) = score untimed h a b c d
+untimedOf (score t h a b c d) = score Untimed h a b c d
 
 -- the run of a letter
 abbrev pub runOf : Score → Letter → Run

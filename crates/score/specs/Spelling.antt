@@ -5,7 +5,9 @@ use Rattle.signs.specs.declared.sign.Sign.{Sign}
 use Rattle.signs.specs.declared.sign.Sign.the-variants.{Block, LeftRepeat, RightRepeat, OpenEnding, CloseEnding}
 use Rattle.signs.specs.declared.sign.Sign.the-variants.{Time as TimeSign}
 use Rattle.score.specs.Trees.{Leaf, block, Left, written, lacking, Run, nil, _▸_, Item, leaf, repeat, group, Ends, no-more, _then_}
-use Rattle.score.specs.Shapes.{Piece, run, sign, table, Time, untimed, timed, Score, timeOf, shapeOf, runOf}
+use Rattle.score.specs.declared.Time.{Time}
+use Rattle.score.specs.declared.Time.the-variants.{Untimed, Timed}
+use Rattle.score.specs.Shapes.{Piece, run, sign, table, Score, timeOf, shapeOf, runOf}
 
 abbrev pub leafSign : Leaf → Sign
 leafSign (block k l) = Block k l
@@ -31,8 +33,8 @@ abbrev mutual
   endsSigns (es then e) = endsSigns es ++ (OpenEnding ∷ (runSigns e ++ (CloseEnding ∷ RightRepeat ∷ [])))
 
 abbrev pub timeSigns : Time → List Sign
-timeSigns untimed = []
-timeSigns (timed m n) = TimeSign m n ∷ []
+timeSigns Untimed = []
+timeSigns (Timed m n) = TimeSign m n ∷ []
 
 -- the pieces of a shape, with the score's runs
 abbrev pub spelled : Score → List Piece → List Sign

@@ -13,14 +13,14 @@ use Rattle.score.specs.Trees.{Leaf, block}
 use Rattle.score.specs.Shapes.{Score}
 use Rattle.score.specs.Spelling.{signsOf}
 use Rattle.score.specs.Readings.{Valid}
-use Rattle.score.specs.Played.{beats, plays, entries}
+use Rattle.played.specs.Played.{entries}
+use Rattle.score.specs.Played.{blockOf, beats, plays, played}
 use Rattle.score.specs.Steps.{steps}
 use Rattle.score.specs.Calls.{Call, calls, names}
 use Rattle.score.specs.Sums.{total, called, each}
 use Rattle.score.proofs.Bound.{few-steps}
 use Rattle.score.proofs.Calls.{blocks-played, beats-played}
 use Rattle.score.proofs.Written.{block-signs}
-use Rattle.translation.specs.Heard.{told, heard}
 use Rattle.translation.specs.Within.{InRange, AllInRange, Within}
 
 -- the steps, in terms of the limits of signs and blocks played
@@ -55,7 +55,7 @@ abbrev pub EndBy : ℕ → List Played → Type 0
 EndBy n [] = Unit {0}
 EndBy n (e ∷ es) = (e .z + e .l ≤ n) × EndBy n es
 
-end-by : (n z : ℕ) (ls : List Leaf) → z + total beats ls ≤ n → EndBy n (map told (entries z ls))
+end-by : (n z : ℕ) (ls : List Leaf) → z + total beats ls ≤ n → EndBy n (entries z (map blockOf ls))
 end-by n z [] h = tt
 end-by n z (block k l ∷ ls) h = (omega arith, end-by n (z + l) ls (omega arith))
 
@@ -64,7 +64,7 @@ pub allowance-suffices : (implied : Bool) (t : Score) → Valid implied t → Wi
 allowance-suffices implied t v w h = let a = steps-at-most document01 implied t v w h in omega arith
 
 -- No beat of a score passes the limit of a saved position.
-pub beats-low : (t : Score) → Within document01 t → length (plays t) ≤ document01 .blocks → (total beats (plays t) ≤ document01 .beat) × EndBy (document01 .beat) (heard t)
+pub beats-low : (t : Score) → Within document01 t → length (plays t) ≤ document01 .blocks → (total beats (plays t) ≤ document01 .beat) × EndBy (document01 .beat) (played t)
 beats-low t w h =
     let a = beats-at-most document01 t w h in
     let low : total beats (plays t) ≤ document01 .beat = omega arith in

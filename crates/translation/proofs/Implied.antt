@@ -7,7 +7,9 @@ use Prim.Native.Nat.{ℕ, suc, _+_}
 use native.Mathlib.Nat.{add-zero, zero-add}
 use native.Mathlib.Omega.{arith}
 use Rattle.score.specs.Trees.{Left, written, lacking, Run, nil, _▸_, Item, leaf, repeat, group, Ends, no-more, _then_}
-use Rattle.score.specs.Shapes.{Shape, straight, dc, ds, dcFine, dsFine, dcCoda, dsCoda, A, Score, score, shapeOf, runOf}
+use Rattle.score.specs.declared.Shape.{Shape}
+use Rattle.score.specs.declared.Shape.the-variants.{Straight, DaCapo, DalSegno, DaCapoFine, DalSegnoFine, DaCapoCoda, DalSegnoCoda}
+use Rattle.score.specs.Shapes.{A, Score, score, shapeOf, runOf}
 use Rattle.score.specs.Readings.{startAfter, Good, GoodItem, GoodEnds, GoodRun, has, Valid}
 use Rattle.score.specs.Steps.{count}
 use Rattle.instructions.specs.declared.Instruction.{Instruction}
@@ -120,36 +122,36 @@ mutual
 -- ---- the shapes
 -- the loop of a D.C.
 abbrev pub dcLoops : Shape → ℕ
-dcLoops straight = 0
-dcLoops dc = 1
-dcLoops ds = 0
-dcLoops dcFine = 1
-dcLoops dsFine = 0
-dcLoops dcCoda = 1
-dcLoops dsCoda = 0
+dcLoops Straight = 0
+dcLoops DaCapo = 1
+dcLoops DalSegno = 0
+dcLoops DaCapoFine = 1
+dcLoops DalSegnoFine = 0
+dcLoops DaCapoCoda = 1
+dcLoops DalSegnoCoda = 0
 
 shape-opens : (h : Shape) (a b c d : Run) → Opens (runCode a) (runLacks a) → Opens (shaped h a b c d) (dcLoops h + runLacks a)
-shape-opens straight a b c d o = opens-cast (shaped straight a b c d) (runLacks a) (0 + runLacks a) (omega arith) o
-shape-opens dc a b c d o = opens-cast (shaped dc a b c d) (suc (runLacks a)) (1 + runLacks a) (omega arith) (opens-looped 2 (runCode a) (runLacks a) o)
-shape-opens ds a b c d o = opens-cast (shaped ds a b c d) (runLacks a) (0 + runLacks a) (omega arith) (opens-seq (runCode a) (looped 2 (runCode b)) (runLacks a) o)
-shape-opens dcFine a b c d o = opens-cast (shaped dcFine a b c d) (suc (runLacks a)) (1 + runLacks a) (omega arith) (opens-leaving (runCode a) (runCode b) (runLacks a) o)
-shape-opens dsFine a b c d o =
-    opens-cast (shaped dsFine a b c d) (runLacks a) (0 + runLacks a) (omega arith) (opens-seq (runCode a) (leaving (runCode b) (runCode c)) (runLacks a) o)
-shape-opens dcCoda a b c d o =
-    opens-cast (shaped dcCoda a b c d) (suc (runLacks a)) (1 + runLacks a) (omega arith)
+shape-opens Straight a b c d o = opens-cast (shaped Straight a b c d) (runLacks a) (0 + runLacks a) (omega arith) o
+shape-opens DaCapo a b c d o = opens-cast (shaped DaCapo a b c d) (suc (runLacks a)) (1 + runLacks a) (omega arith) (opens-looped 2 (runCode a) (runLacks a) o)
+shape-opens DalSegno a b c d o = opens-cast (shaped DalSegno a b c d) (runLacks a) (0 + runLacks a) (omega arith) (opens-seq (runCode a) (looped 2 (runCode b)) (runLacks a) o)
+shape-opens DaCapoFine a b c d o = opens-cast (shaped DaCapoFine a b c d) (suc (runLacks a)) (1 + runLacks a) (omega arith) (opens-leaving (runCode a) (runCode b) (runLacks a) o)
+shape-opens DalSegnoFine a b c d o =
+    opens-cast (shaped DalSegnoFine a b c d) (runLacks a) (0 + runLacks a) (omega arith) (opens-seq (runCode a) (leaving (runCode b) (runCode c)) (runLacks a) o)
+shape-opens DaCapoCoda a b c d o =
+    opens-cast (shaped DaCapoCoda a b c d) (suc (runLacks a)) (1 + runLacks a) (omega arith)
     (opens-seq (leaving (runCode a) (runCode b)) (runCode c) (suc (runLacks a)) (opens-leaving (runCode a) (runCode b) (runLacks a) o))
-shape-opens dsCoda a b c d o =
-    opens-cast (shaped dsCoda a b c d) (runLacks a) (0 + runLacks a) (omega arith) (opens-seq (runCode a) (leaving (runCode b) (runCode c) ⨾ runCode d) (runLacks a) o)
+shape-opens DalSegnoCoda a b c d o =
+    opens-cast (shaped DalSegnoCoda a b c d) (runLacks a) (0 + runLacks a) (omega arith) (opens-seq (runCode a) (leaving (runCode b) (runCode c) ⨾ runCode d) (runLacks a) o)
 
 -- every shape has a run A
 first-run : (h : Shape) (start : Bool) (a : Run) → GoodRun (has h A) start a → Good a start
-first-run straight start a g = g .1
-first-run dc start a g = g .1
-first-run ds start a g = g .1
-first-run dcFine start a g = g .1
-first-run dsFine start a g = g .1
-first-run dcCoda start a g = g .1
-first-run dsCoda start a g = g .1
+first-run Straight start a g = g .1
+first-run DaCapo start a g = g .1
+first-run DalSegno start a g = g .1
+first-run DaCapoFine start a g = g .1
+first-run DalSegnoFine start a g = g .1
+first-run DaCapoCoda start a g = g .1
+first-run DalSegnoCoda start a g = g .1
 
 pub implied-first : (implied : Bool) (t : Score) → Valid implied t
     → (rest : List Instruction) × (code t ≡ map loop (counting 0 (dcLoops (shapeOf t) + runLacks (runOf t A))) ++ rest)

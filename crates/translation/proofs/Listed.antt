@@ -8,7 +8,9 @@ use native.Mathlib.Omega.{arith}
 use lib.ListN.{length, length-map}
 use Rattle.refusals.specs.Limits.{Limits, document01}
 use Rattle.score.specs.Trees.{Run}
-use Rattle.score.specs.Shapes.{Shape, Time, Score, score}
+use Rattle.score.specs.declared.Shape.{Shape}
+use Rattle.score.specs.declared.Time.{Time}
+use Rattle.score.specs.Shapes.{Score, score}
 use Rattle.instructions.specs.declared.Instruction.{Instruction}
 use Rattle.instructions.specs.declared.listing.Tested.the-variants.{Good}
 use Rattle.instructions.specs.Words.{packed}

@@ -8,13 +8,10 @@ use native.Mathlib.Omega.{arith}
 use lib.Dec.{eqb}
 use borrow.Author.Tests.{eq-eqb, ne-eqb}
 use Rattle.played.specs.Played.{Block}
-use Rattle.score.specs.Trees.{Leaf, block, Ends, no-more, _then_}
-use Rattle.score.specs.Played.{runPlays, endsPlay}
+use Rattle.score.specs.Trees.{Leaf, Ends, no-more, _then_}
+use Rattle.score.specs.Played.{blockOf, runPlays, endsPlay}
 use Rattle.score.specs.Steps.{count, runSteps, endsSteps}
 use Rattle.translation.proofs.Looped.{sumTo, joinTo}
-
-abbrev pub blockOf : Leaf → Block
-blockOf (block k l) = record { k = k; l = l }
 
 abbrev pub blocks : List Leaf → List Block
 blocks = map blockOf

@@ -10,26 +10,20 @@ use Rattle.played.specs.declared.Played.{Played}
 use Rattle.played.specs.Played.{entries, total}
 use Rattle.score.specs.Trees.{Leaf, block}
 use Rattle.score.specs.Shapes.{Score, score}
-use Rattle.score.specs.Played.{beats, plays}
-use Rattle.score.specs.Played.{entries as written-entries}
+use Rattle.score.specs.Played.{blockOf, beats, plays, played}
 use Rattle.score.specs.Sums.{total as sum}
 use Rattle.score.specs.Steps.{steps}
 use Rattle.instructions.specs.declared.Instruction.{Instruction}
 use Rattle.machine.specs.Machine.{position, freshOf, halted, Ran, run}
 use Rattle.translation.specs.Listing.{wholeOf, code}
-use Rattle.translation.specs.Heard.{told, heard}
 use Rattle.translation.proofs.Marks.{below-nil}
 use Rattle.translation.proofs.Goes.{Goes}
 use Rattle.translation.proofs.Segments.{Over}
-use Rattle.translation.proofs.Passes.{blockOf, blocks}
+use Rattle.translation.proofs.Passes.{blocks}
 use Rattle.translation.proofs.Shapes.{shaped, jumpOf, same-code, same-marks, shape-seg}
 use Rattle.translation.proofs.Halting.{halts, Unfinished, unfinished}
 
--- the score's entries and beats are the machine's
-entries-told : (z : ℕ) (ls : List Leaf) → entries z (blocks ls) ≡ map told (written-entries z ls)
-entries-told z [] = refl
-entries-told z (block k l ∷ ls) = ap (λ (u : List Played). record { k = k; l = l; z = z } ∷ u) (entries-told (z + l) ls)
-
+-- the score's beats are the machine's
 total-beats : (ls : List Leaf) → total (blocks ls) ≡ sum beats ls
 total-beats [] = refl
 total-beats (block k l ∷ ls) = ap (λ (n : ℕ). l + n) (total-beats ls)
@@ -59,7 +53,7 @@ whole (score t h a b c d) cs fits =
 pub record Played-through (l : Limits) (t : Score) (r : Ran) : Type 0 where
   pub ends : List ℕ
   pub long : length ends ≡ l .loops
-  pub done : r ≡ record { stop = halted; steps = steps t; plays = heard t; now = position (length (code t)) ends (sum beats (plays t)) }
+  pub done : r ≡ record { stop = halted; steps = steps t; plays = played t; now = position (length (code t)) ends (sum beats (plays t)) }
 
 module _ (l : Limits) (t : Score) (fits : wholeOf t .loops ≤ l .loops) where
   pub plays-through : (n room : ℕ) → steps t ≤ n → length (plays t) ≤ room → Played-through l t (run (code t) n room (freshOf l))
@@ -75,7 +69,7 @@ module _ (l : Limits) (t : Score) (fits : wholeOf t .loops ≤ l .loops) where
         done =
             ap₂ (λ (n room : ℕ). run (code t) n room (freshOf l)) enough wide
             ∙ halts (w .goes) (n - steps t) (room - length (plays t))
-            ∙ ap₂ (λ (u : List Played) (z : ℕ). record { stop = halted; steps = steps t; plays = u; now = position (length (code t)) (w .ends) z }) (entries-told 0 (plays t)) (total-beats (plays t));
+            ∙ ap (λ (z : ℕ). record { stop = halted; steps = steps t; plays = played t; now = position (length (code t)) (w .ends) z }) (total-beats (plays t));
       }
 
   pub unfinished-before : (n room : ℕ) → n < steps t → length (plays t) ≤ room → Unfinished n (run (code t) n room (freshOf l))

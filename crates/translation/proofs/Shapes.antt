@@ -9,7 +9,10 @@ use native.Mathlib.Numerals.{add-one}
 use native.Mathlib.Omega.{arith}
 use Rattle.played.specs.Played.{Block}
 use Rattle.score.specs.Trees.{Run}
-use Rattle.score.specs.Shapes.{Shape, straight, dc, ds, dcFine, dsFine, dcCoda, dsCoda, Time, Score, score, table, Turn, letterOf, runOf}
+use Rattle.score.specs.declared.Shape.{Shape}
+use Rattle.score.specs.declared.Shape.the-variants.{Straight, DaCapo, DalSegno, DaCapoFine, DalSegnoFine, DaCapoCoda, DalSegnoCoda}
+use Rattle.score.specs.declared.Time.{Time}
+use Rattle.score.specs.Shapes.{Score, score, table, Turn, letterOf, runOf}
 use Rattle.score.specs.Played.{runPlays, turnsPlay, plays}
 use Rattle.score.specs.Steps.{steps}
 use Rattle.translation.specs.Stretches.{Stretch, _⨾_, looped}
@@ -23,13 +26,13 @@ use Rattle.translation.proofs.Trees.{seg-twice, run-seg}
 
 -- a score's listing, by its shape
 abbrev pub shaped : Shape → (a b c d : Run) → Stretch
-shaped straight a b c d = runCode a
-shaped dc a b c d = looped 2 (runCode a)
-shaped ds a b c d = runCode a ⨾ looped 2 (runCode b)
-shaped dcFine a b c d = leaving (runCode a) (runCode b)
-shaped dsFine a b c d = runCode a ⨾ leaving (runCode b) (runCode c)
-shaped dcCoda a b c d = leaving (runCode a) (runCode b) ⨾ runCode c
-shaped dsCoda a b c d = runCode a ⨾ leaving (runCode b) (runCode c) ⨾ runCode d
+shaped Straight a b c d = runCode a
+shaped DaCapo a b c d = looped 2 (runCode a)
+shaped DalSegno a b c d = runCode a ⨾ looped 2 (runCode b)
+shaped DaCapoFine a b c d = leaving (runCode a) (runCode b)
+shaped DalSegnoFine a b c d = runCode a ⨾ leaving (runCode b) (runCode c)
+shaped DaCapoCoda a b c d = leaving (runCode a) (runCode b) ⨾ runCode c
+shaped DalSegnoCoda a b c d = runCode a ⨾ leaving (runCode b) (runCode c) ⨾ runCode d
 
 -- the jump's loop
 abbrev pub jumpOf : Score → ℕ
@@ -39,13 +42,13 @@ one-add : (n : ℕ) → 1 + n ≡ suc n
 one-add n = omega arith
 
 by-shape : (t : Time) (h : Shape) (a b c d : Run) → wholeOf (score t h a b c d) .from (jumpOf (score t h a b c d)) 0 0 ≡ shaped h a b c d .from (jumpOf (score t h a b c d)) 0 0
-by-shape t straight a b c d = simp append-nil
-by-shape t dc a b c d = simp zero-add
-by-shape t ds a b c d = simp (zero-add, add-zero, add-one)
-by-shape t dcFine a b c d = simp (zero-add, add-zero, one-add)
-by-shape t dsFine a b c d = simp (zero-add, add-zero, add-one, suc-add, add-assoc)
-by-shape t dcCoda a b c d = simp (zero-add, add-zero, add-one, one-add, suc-add, append-assoc, append-nil)
-by-shape t dsCoda a b c d = simp (zero-add, add-zero, add-one, suc-add, add-suc, add-assoc, append-assoc, append-nil)
+by-shape t Straight a b c d = simp append-nil
+by-shape t DaCapo a b c d = simp zero-add
+by-shape t DalSegno a b c d = simp (zero-add, add-zero, add-one)
+by-shape t DaCapoFine a b c d = simp (zero-add, add-zero, one-add)
+by-shape t DalSegnoFine a b c d = simp (zero-add, add-zero, add-one, suc-add, add-assoc)
+by-shape t DaCapoCoda a b c d = simp (zero-add, add-zero, add-one, one-add, suc-add, append-assoc, append-nil)
+by-shape t DalSegnoCoda a b c d = simp (zero-add, add-zero, add-one, suc-add, add-suc, add-assoc, append-assoc, append-nil)
 
 pub same-code : (t : Time) (h : Shape) (a b c d : Run) → code (score t h a b c d) ≡ shaped h a b c d .from (jumpOf (score t h a b c d)) 0 0
 same-code t h a b c d =
@@ -55,13 +58,13 @@ same-code t h a b c d =
 -- with as many loops and labels
 pub same-marks : (t : Time) (h : Shape) (a b c d : Run)
     → (wholeOf (score t h a b c d) .loops ≡ shaped h a b c d .loops) × (wholeOf (score t h a b c d) .labels ≡ shaped h a b c d .labels)
-same-marks t straight a b c d = (omega arith, omega arith)
-same-marks t dc a b c d = (omega arith, omega arith)
-same-marks t ds a b c d = (omega arith, omega arith)
-same-marks t dcFine a b c d = (omega arith, omega arith)
-same-marks t dsFine a b c d = (omega arith, omega arith)
-same-marks t dcCoda a b c d = (omega arith, omega arith)
-same-marks t dsCoda a b c d = (omega arith, omega arith)
+same-marks t Straight a b c d = (omega arith, omega arith)
+same-marks t DaCapo a b c d = (omega arith, omega arith)
+same-marks t DalSegno a b c d = (omega arith, omega arith)
+same-marks t DaCapoFine a b c d = (omega arith, omega arith)
+same-marks t DalSegnoFine a b c d = (omega arith, omega arith)
+same-marks t DaCapoCoda a b c d = (omega arith, omega arith)
+same-marks t DalSegnoCoda a b c d = (omega arith, omega arith)
 
 -- what the turns of a shape play
 abbrev turns : Score → List Turn → List Block
@@ -76,15 +79,15 @@ abbrev Shaped : Shape → Type 0
 Shaped h = (t : Time) (a b c d : Run) → Seg none (shaped h a b c d) (steps (score t h a b c d)) (turns (score t h a b c d) (table h .plays))
 
 by-turns : (h : Shape) → Shaped h
-by-turns straight t a b c d = seg-cast (omega arith) (simp append-nil) (run-seg a none)
-by-turns dc t a b c d = seg-cast (omega arith) (simp append-nil) (seg-twice none (run-seg a (some 1)) (run-seg a (some 2)))
-by-turns ds t a b c d = seg-cast (omega arith) (simp append-nil) (seg-seq (run-seg a none) (seg-twice none (run-seg b (some 1)) (run-seg b (some 2))))
-by-turns dcFine t a b c d = seg-cast (omega arith) (simp append-nil) (seg-leaving (run-seg a (some 1)) (run-seg a (some 2)) (run-seg b (some 1)) none)
-by-turns dsFine t a b c d =
+by-turns Straight t a b c d = seg-cast (omega arith) (simp append-nil) (run-seg a none)
+by-turns DaCapo t a b c d = seg-cast (omega arith) (simp append-nil) (seg-twice none (run-seg a (some 1)) (run-seg a (some 2)))
+by-turns DalSegno t a b c d = seg-cast (omega arith) (simp append-nil) (seg-seq (run-seg a none) (seg-twice none (run-seg b (some 1)) (run-seg b (some 2))))
+by-turns DaCapoFine t a b c d = seg-cast (omega arith) (simp append-nil) (seg-leaving (run-seg a (some 1)) (run-seg a (some 2)) (run-seg b (some 1)) none)
+by-turns DalSegnoFine t a b c d =
     seg-cast (omega arith) (simp append-nil) (seg-seq (run-seg a none) (seg-leaving (run-seg b (some 1)) (run-seg b (some 2)) (run-seg c (some 1)) none))
-by-turns dcCoda t a b c d =
+by-turns DaCapoCoda t a b c d =
     seg-cast (omega arith) (simp (append-nil, append-assoc)) (seg-seq (seg-leaving (run-seg a (some 1)) (run-seg a (some 2)) (run-seg b (some 1)) none) (run-seg c none))
-by-turns dsCoda t a b c d =
+by-turns DalSegnoCoda t a b c d =
     seg-cast (omega arith) (simp (append-nil, append-assoc))
     (seg-seq (run-seg a none) (seg-seq (seg-leaving (run-seg b (some 1)) (run-seg b (some 2)) (run-seg c (some 1)) none) (run-seg d none)))
 

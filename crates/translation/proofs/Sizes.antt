@@ -5,7 +5,10 @@ use Prim.Native.Nat.{ℕ, suc, _+_, _*_, _≤_}
 use native.Mathlib.Omega.{arith}
 use lib.ListN.{length, length-append, length-map}
 use Rattle.score.specs.Trees.{block, Run, nil, _▸_, Item, leaf, repeat, group, Ends, no-more, _then_}
-use Rattle.score.specs.Shapes.{Shape, straight, dc, ds, dcFine, dsFine, dcCoda, dsCoda, Time, Score, score}
+use Rattle.score.specs.declared.Shape.{Shape}
+use Rattle.score.specs.declared.Shape.the-variants.{Straight, DaCapo, DalSegno, DaCapoFine, DalSegnoFine, DaCapoCoda, DalSegnoCoda}
+use Rattle.score.specs.declared.Time.{Time}
+use Rattle.score.specs.Shapes.{Score, score}
 use Rattle.score.specs.Spelling.{runSigns, itemSigns, endsSigns, signsOf}
 use Rattle.score.specs.Steps.{count}
 use Rattle.score.specs.Calls.{runCalls, itemCalls, endsCalls, calls}
@@ -79,13 +82,13 @@ abbrev pub ShapeSized : Shape → Type 0
 ShapeSized h = (t : Time) (a b c d : Run) → Sized (shaped h a b c d) (length (calls (score t h a b c d))) (length (signsOf (score t h a b c d)))
 
 pub shape-sized : (h : Shape) → ShapeSized h
-shape-sized straight t a b c d = resized (simp length-append (omega arith)) (simp length-append (omega arith)) (run-sized a 1)
-shape-sized dc t a b c d = resized (simp length-append (omega arith)) (simp length-append (omega arith)) (sized-looped 2 (run-sized a 2))
-shape-sized ds t a b c d = resized (simp length-append (omega arith)) (simp length-append (omega arith)) (sized-seq (run-sized a 1) (sized-looped 2 (run-sized b 2)))
-shape-sized dcFine t a b c d = resized (simp length-append (omega arith)) (simp length-append (omega arith)) (sized-leaving (run-sized a 2) (run-sized b 1))
-shape-sized dsFine t a b c d = resized (simp length-append (omega arith)) (simp length-append (omega arith)) (sized-seq (run-sized a 1) (sized-leaving (run-sized b 2) (run-sized c 1)))
-shape-sized dcCoda t a b c d = resized (simp length-append (omega arith)) (simp length-append (omega arith)) (sized-seq (sized-leaving (run-sized a 2) (run-sized b 1)) (run-sized c 1))
-shape-sized dsCoda t a b c d =
+shape-sized Straight t a b c d = resized (simp length-append (omega arith)) (simp length-append (omega arith)) (run-sized a 1)
+shape-sized DaCapo t a b c d = resized (simp length-append (omega arith)) (simp length-append (omega arith)) (sized-looped 2 (run-sized a 2))
+shape-sized DalSegno t a b c d = resized (simp length-append (omega arith)) (simp length-append (omega arith)) (sized-seq (run-sized a 1) (sized-looped 2 (run-sized b 2)))
+shape-sized DaCapoFine t a b c d = resized (simp length-append (omega arith)) (simp length-append (omega arith)) (sized-leaving (run-sized a 2) (run-sized b 1))
+shape-sized DalSegnoFine t a b c d = resized (simp length-append (omega arith)) (simp length-append (omega arith)) (sized-seq (run-sized a 1) (sized-leaving (run-sized b 2) (run-sized c 1)))
+shape-sized DaCapoCoda t a b c d = resized (simp length-append (omega arith)) (simp length-append (omega arith)) (sized-seq (sized-leaving (run-sized a 2) (run-sized b 1)) (run-sized c 1))
+shape-sized DalSegnoCoda t a b c d =
     resized (simp length-append (omega arith)) (simp length-append (omega arith)) (sized-seq (run-sized a 1) (sized-seq (sized-leaving (run-sized b 2) (run-sized c 1)) (run-sized d 1)))
 
 -- A listing's size: an instruction for each block sign, two for each loop and for each label.

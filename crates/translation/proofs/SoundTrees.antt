@@ -8,7 +8,10 @@ use native.Mathlib.Omega.{arith}
 use lib.ListN.{length, length-append}
 use Rattle.refusals.specs.Limits.{Limits}
 use Rattle.score.specs.Trees.{block, Run, nil, _▸_, Item, leaf, repeat, group, Ends, no-more, _then_}
-use Rattle.score.specs.Shapes.{Shape, straight, dc, ds, dcFine, dsFine, dcCoda, dsCoda, Letter, Piece, run, sign, lettersOf, table, runOf, Time, Score, score}
+use Rattle.score.specs.declared.Shape.{Shape}
+use Rattle.score.specs.declared.Shape.the-variants.{Straight, DaCapo, DalSegno, DaCapoFine, DalSegnoFine, DaCapoCoda, DalSegnoCoda}
+use Rattle.score.specs.declared.Time.{Time}
+use Rattle.score.specs.Shapes.{Letter, Piece, run, sign, lettersOf, table, runOf, Score, score}
 use Rattle.score.specs.Spelling.{leftSigns, runSigns, itemSigns, endsSigns, timeSigns, spelled, signsOf}
 use Rattle.score.specs.Steps.{count}
 use Rattle.score.specs.Calls.{Call, runCalls, itemCalls, endsCalls, timesOf, lettersCalls, names}
@@ -87,16 +90,16 @@ module _ (m : Limits) (top : ℕ) (two : 2 ≤ m .times) where
   all-stand t (sign y ∷ ps) x h = all-stand t ps (omega arith) h
 
   shape-stands : (t : Time) (h : Shape) (a b c d : Run) → AllStand (score t h a b c d) (lettersOf (table h .signs)) → Stands m top false (shaped h a b c d)
-  shape-stands t straight a b c d (p, end) = p false
-  shape-stands t dc a b c d (p, end) = stands-looped m top false (runCode a) 2 (omega arith) two (p true)
-  shape-stands t ds a b c d (p, (q, end)) =
+  shape-stands t Straight a b c d (p, end) = p false
+  shape-stands t DaCapo a b c d (p, end) = stands-looped m top false (runCode a) 2 (omega arith) two (p true)
+  shape-stands t DalSegno a b c d (p, (q, end)) =
       stands-seq m top false (runCode a) (looped 2 (runCode b)) (p false) (stands-looped m top false (runCode b) 2 (omega arith) two (q true))
-  shape-stands t dcFine a b c d (p, (q, end)) = stands-leaving m top false (runCode a) (runCode b) two (p true) (q true)
-  shape-stands t dsFine a b c d (p, (q, (r, end))) =
+  shape-stands t DaCapoFine a b c d (p, (q, end)) = stands-leaving m top false (runCode a) (runCode b) two (p true) (q true)
+  shape-stands t DalSegnoFine a b c d (p, (q, (r, end))) =
       stands-seq m top false (runCode a) (leaving (runCode b) (runCode c)) (p false) (stands-leaving m top false (runCode b) (runCode c) two (q true) (r true))
-  shape-stands t dcCoda a b c d (p, (q, (r, end))) =
+  shape-stands t DaCapoCoda a b c d (p, (q, (r, end))) =
       stands-seq m top false (leaving (runCode a) (runCode b)) (runCode c) (stands-leaving m top false (runCode a) (runCode b) two (p true) (q true)) (r false)
-  shape-stands t dsCoda a b c d (p, (q, (r, (s, end)))) =
+  shape-stands t DalSegnoCoda a b c d (p, (q, (r, (s, end)))) =
       stands-seq m top false (runCode a) (leaving (runCode b) (runCode c) ⨾ runCode d) (p false)
       (stands-seq m top false (leaving (runCode b) (runCode c)) (runCode d) (stands-leaving m top false (runCode b) (runCode c) two (q true) (r true)) (s false))
 

@@ -7,14 +7,14 @@ use Prim.Native.Nat.{ℕ, zero, suc, _+_, _*_, _≤_}
 use native.Mathlib.Omega.{arith}
 use Rattle.played.specs.Played.{Block}
 use Rattle.score.specs.Trees.{block, Run, nil, _▸_, Item, leaf, repeat, group, Ends, no-more, _then_}
-use Rattle.score.specs.Played.{runPlays, itemPlays}
+use Rattle.score.specs.Played.{blockOf, runPlays, itemPlays}
 use Rattle.score.specs.Steps.{count, runSteps, itemSteps}
 use Rattle.translation.specs.Stretches.{Stretch, _⨾_, looped, ending}
 use Rattle.translation.specs.Runs.{runCode, itemCode, endsCode}
 use Rattle.translation.proofs.Segments.{Seg, seg-cast, seg-empty, seg-block, seg-seq}
 use Rattle.translation.proofs.Looped.{sumTo, seg-looped}
 use Rattle.translation.proofs.Endings.{seg-ending}
-use Rattle.translation.proofs.Passes.{blockOf, blocks, blocks-append, stepsAt, playsAt, sum-ext, ends-sum, ends-join}
+use Rattle.translation.proofs.Passes.{blocks, blocks-append, stepsAt, playsAt, sum-ext, ends-sum, ends-join}
 
 -- the first of two, or the second
 abbrev pick : {A : Type 0} → A → A → ℕ → A

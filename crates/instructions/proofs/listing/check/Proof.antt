@@ -41,14 +41,14 @@ returns : tie.Need-returns
 returns c =
     let listing = c .before .before .before .before .before .before .before .before .before .before .before .before .before .args .listing .now in
     let put = c .before .before .before .before .before .before .before .before .put-all in
-    checked document01 listing (put .last .1 .0) (search needs) (put .ensures .0) _
+    checked document01 listing (put .last .1 .0) (put .last .1 .1 .0) _ (search needs) (search needs) (put .ensures .0) (put .ensures .1)
     (is-bad document01 listing _ (c .before .first-break .ensures) (c .if1 .taken))
 
 returns-2 : tie.Need-returns-2
 returns-2 c =
     let listing = c .before .before .before .before .before .before .before .before .before .before .before .before .before .args .listing .now in
     let put = c .before .before .before .before .before .before .before .before .put-all in
-    checked document01 listing (put .last .1 .0) (search needs) (put .ensures .0) _
+    checked document01 listing (put .last .1 .0) (put .last .1 .1 .0) _ (search needs) (search needs) (put .ensures .0) (put .ensures .1)
     (is-good document01 listing _ (c .before .first-break .ensures) (c .if1 .left))
 
 pub check-spec : {M : Type 1} → statement M

@@ -1,0 +1,16 @@
+-- `grammar::whole::ended` meets its contract.
+-- Assumes nothing.
+use borrow.Author.Needs.{needs}
+use Rattle.grammar.proofs.whole.ended.Statement.{statement}
+use Rattle.grammar.proofs.whole.ended.Tie as tie
+
+returns : tie.Need-returns
+returns c = cc
+
+pub ended-spec : {M : Type 1} → statement M
+ended-spec =
+    tie.close
+    (tie.spec
+    (λ c κs. search needs)
+    (λ c κs. search needs)
+    returns)
