@@ -1,11 +1,12 @@
 -- A run of a listing into a lent play buffer: refusals 11 and 12, else what the machine does.
 -- Assumes nothing.
 use mathlib.Core.Bool.{cond}
-use mathlib.Core.List.{List, _++_}
+use mathlib.Core.List.{List, [], _∷_, _++_}
 use mathlib.Core.Option.{Option, none, some}
 use Prim.Native.Nat.{ℕ}
 use lib.ListN.{length, drop, replicate}
 use Rattle.refusals.specs.Limits.{Limits}
+use Rattle.refusals.specs.Said.{Said, said, saidRefusal}
 use Rattle.refusals.specs.declared.Refusal.{Refusal}
 use Rattle.refusals.specs.declared.Refusal.the-variants.{BadPosition}
 use Rattle.played.specs.declared.Played.{Played}
@@ -17,6 +18,7 @@ use Rattle.machine.specs.Machine.{halted, used, full, Ran, run, freshOf}
 use Rattle.machine.specs.Machine as machine
 use Rattle.stand.specs.declared.Stop.{Stop}
 use Rattle.stand.specs.declared.Stop.the-variants.{Halted, AllowanceUsed, BufferFull}
+use Rattle.stand.specs.declared.Report.{Report}
 use Rattle.stand.specs.declared.Report.the-variants.{Refused, Stopped}
 use Rattle.stand.specs.declared.Answer.{Answer}
 use Rattle.stand.specs.Positions.{positionFits}
@@ -31,6 +33,16 @@ told full = BufferFull
 -- the answer of a run: why it stopped, its steps, the entries written, and the new position
 abbrev pub answered : Ran → Answer
 answered r = record { report = Stopped (told (r .stop)) (r .steps) (length (r .plays)); position = r .now }
+
+-- document 01's number and values for each report: of a refusal its number and place, else why it stopped (0 halted, 1 allowance used, 2 play buffer full), the steps done and the entries written
+abbrev pub saidStop : Stop → ℕ
+saidStop Halted = 0
+saidStop AllowanceUsed = 1
+saidStop BufferFull = 2
+
+abbrev pub saidReport : Limits → Report → Said
+saidReport l (Refused why) = saidRefusal l why
+saidReport l (Stopped stop steps entries) = said 0 (saidStop stop ∷ steps ∷ entries ∷ [])
 
 -- the answer where a run is refused: the position is all zero
 abbrev pub refusing : Limits → Refusal → Answer
