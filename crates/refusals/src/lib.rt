@@ -1,4 +1,7 @@
 // Every way to be refused, and document 01's number and place for each.
+
+#![tactic(auto)]
+
 mod limits;
 
 ghost use Rattle.std.specs.Prelude.{◌≡◌};

@@ -17,6 +17,7 @@ pub enum Next {
 }
 
 // The next sign from a place on.
+#[tactic(auto, using(crate::proofs::Coming::coming_end, crate::proofs::Coming::coming_as_lem, crate::proofs::Coming::next_long, crate::proofs::Coming::next_short))]
 pub fn next_sign(text: &[u8], at: usize) -> Next
     ensures answer { result ≡ next_sign document01 text.now at }
     ensures numbers { said_next document01 result ≡ next_said document01 text.now at }

@@ -25,6 +25,7 @@ fn is_digit(b: u8) -> bool
 }
 
 // The number at a place: 1 to 6 digits, no leading zero except 0 alone.
+#[tactic(auto, using(crate::proofs::Digits::one_more, crate::proofs::Digits::too_many, crate::proofs::Digits::no_digit, crate::proofs::Digits::one_digit, crate::proofs::Digits::zero_first, crate::proofs::Digits::many_digits))]
 fn read_number(text: &[u8], at: usize) -> Number
     ensures { result ≡ number_at text.now at }
 {
@@ -56,6 +57,7 @@ fn read_number(text: &[u8], at: usize) -> Number
 }
 
 // Spaces, a number, a comma, spaces, a number and a closing bracket.
+#[tactic(auto, using(crate::proofs::Digits::pair_none, crate::proofs::Digits::pair_no_comma, crate::proofs::Digits::pair_second, crate::proofs::Digits::pair_open, crate::proofs::Digits::pair_closed))]
 pub(crate) fn read_pair(text: &[u8], at: usize) -> Pair
     ensures { result ≡ pair_at text.now at }
 {

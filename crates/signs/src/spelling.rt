@@ -83,6 +83,7 @@ fn finished(text: &[u8], i: usize, at: usize) -> Standing
 }
 
 // The longest spelling that stands at a place.
+#[tactic(auto, using(crate::proofs::Scan::known_none, crate::proofs::Scan::known_more, crate::proofs::Scan::known_stands, crate::proofs::Scan::known_start, crate::proofs::Scan::agrees_none, crate::proofs::Scan::agrees_more, crate::proofs::Scan::agrees_there, crate::proofs::Scan::differs, crate::proofs::Scan::agrees_all))]
 pub(crate) fn sign_at(text: &[u8], at: usize) -> Standing
     ensures { result ≡ longest text.now at spellings }
 {
