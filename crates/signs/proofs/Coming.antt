@@ -89,6 +89,7 @@ module _ (text : List ℕ) where
   some (s ∷ ss) = leb 1 (length s.letters) && some ss
 
   some_in : (ss : List Spelling) (s : Spelling) → In s ss → T (some ss) → 1 ≤ length s.letters
+  some_in [] t m u = elim m [ ]
   some_in (s ∷ ss) t here u = leb→le 1 (length s.letters) (both_left (leb 1 (length s.letters)) (some ss) u)
   some_in (s ∷ ss) t (there m) u = some_in ss t m (both_right (leb 1 (length s.letters)) (some ss) u)
 

@@ -12,7 +12,6 @@ use lib.Dec.{eqb, leb}
 use lib.ListN.{length, get_or, drop, length-drop}
 use Rattle.signs.specs.declared.number.Number.{Number}
 use Rattle.signs.specs.declared.number.Number.TheVariants.{Read, Nothing}
-use Rattle.signs.specs.declared.number.Pair.{Pair}
 use Rattle.signs.specs.declared.number.Pair.TheVariants.{Both, Nothing as NoPair}
 use Rattle.signs.specs.Text.{past}
 use Rattle.signs.specs.Numbers.{digit, leading, decimal, numeral, number_of, number_at, closed, pair_at}

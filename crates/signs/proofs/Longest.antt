@@ -79,6 +79,7 @@ reached_right (Stands u o) (Stands s p) (Stands t q) r = go (ltb p q) refl
 -- no spelling of the table that stands there ends later
 pub longest_most : (text : List ℕ) (at : ℕ) (ss : List Spelling) (s : Spelling) → In s ss → Reached (spelled text at s) (longest text at ss)
 unfolding longest
+longest_most text at [] t m = elim m [ ]
 longest_most text at (s ∷ ss) t here = reached_left (spelled text at s) (longest text at ss)
 longest_most text at (s ∷ ss) t (there m) = reached_right (spelled text at t) (spelled text at s) (longest text at ss) (longest_most text at ss t m)
 
@@ -216,6 +217,7 @@ in_cons here P a b = a
 in_cons (there m) P a b = b m
 
 before_in : (x : Spelling) (ss : List Spelling) (w : Spelling) → T (before x ss) → In w ss → T (apart x w)
+before_in x [] w t m = elim m [ ]
 before_in x (y ∷ ss) w t here = both_left (apart x y) (before x ss) t
 before_in x (y ∷ ss) w t (there m) = before_in x ss w (both_right (apart x y) (before x ss) t) m
 

@@ -12,7 +12,6 @@ use lib.ListN.{length, get_or, drop}
 use lib.Seq.{drop-cons}
 use Rattle.signs.specs.declared.sign.Sign.{Sign}
 use Rattle.signs.specs.declared.sign.Sign.TheVariants.{Fine}
-use Rattle.signs.specs.declared.spelling.Standing.{Standing}
 use Rattle.signs.specs.declared.spelling.Standing.TheVariants.{Stands, Nothing}
 use Rattle.signs.specs.Text.{starts}
 use Rattle.signs.specs.Spellings.{alone, spells, spellings, spelling, spelled, letters_of, letter_of, finished_by, longest, as_number}

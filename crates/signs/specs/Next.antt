@@ -1,6 +1,6 @@
 -- The next sign of a text, from a place on.
 -- Assumes nothing.
-use Rattle.std.specs.Prelude.{Bool, true, false, cond, List, [], ◌∷◌, ◌++◌, ℕ, ltb, length}
+use Rattle.std.specs.Prelude.{false, cond, List, [], ◌∷◌, ◌++◌, ℕ, ltb, length}
 use Rattle.refusals.specs.declared.Refusal.TheVariants.{TextTooLong, Unreadable}
 use Rattle.refusals.specs.Limits.{Limits}
 use Rattle.refusals.specs.Said.{Said, said, said_refusal}

@@ -1,6 +1,6 @@
 -- Numbers by their digits, and the two numbers that a sign carries.
 -- Assumes nothing.
-use Rattle.std.specs.Prelude.{Bool, true, false, not, cond, ◌&&◌, ◌||◌, List, [], ◌∷◌, ℕ, ◌+◌, ◌*◌, ◌-◌, leb, eqb, length, get_or, drop}
+use Rattle.std.specs.Prelude.{Bool, true, not, cond, ◌&&◌, ◌||◌, List, [], ◌∷◌, ℕ, ◌+◌, ◌*◌, ◌-◌, leb, eqb, length, get_or, drop}
 use Rattle.signs.specs.declared.number.Number.{Number}
 use Rattle.signs.specs.declared.number.Number.TheVariants.{Read, Nothing}
 use Rattle.signs.specs.declared.number.Pair.{Pair}

@@ -1,6 +1,6 @@
 -- The sixteen spellings, and the longest of them that stands at a place.
 -- Assumes nothing.
-use Rattle.std.specs.Prelude.{Bool, true, false, cond, List, [], ◌∷◌, ℕ, ◌+◌, ◌*◌, ltb, length, get_or, drop}
+use Rattle.std.specs.Prelude.{cond, List, [], ◌∷◌, ℕ, ◌+◌, ◌*◌, ltb, length, get_or, drop}
 use Prim.Native.String.{String}
 use Rattle.signs.specs.declared.number.Pair.{Pair}
 use Rattle.signs.specs.declared.number.Pair.TheVariants.{Both, Nothing as NoPair}

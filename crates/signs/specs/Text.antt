@@ -1,6 +1,6 @@
 -- What stands in a text from a place on: separators, spaces, given letters.
 -- Assumes nothing.
-use Rattle.std.specs.Prelude.{Bool, true, false, cond, ◌&&◌, ◌||◌, List, [], ◌∷◌, ℕ, zero, suc, ◌+◌, eqb, drop}
+use Rattle.std.specs.Prelude.{Bool, true, false, cond, ◌&&◌, ◌||◌, List, [], ◌∷◌, ℕ, suc, ◌+◌, eqb, drop}
 
 -- how many numbers at the front of a list pass a test
 abbrev pub front : (ℕ → Bool) → List ℕ → ℕ

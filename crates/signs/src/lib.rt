@@ -1,4 +1,7 @@
 // Signs: what they are, how they are kept as words, and how one is read from a text.
+
+#![tactic(auto)]
+
 mod next;
 mod number;
 mod sign;

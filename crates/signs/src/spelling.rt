@@ -15,6 +15,7 @@ pub enum Standing {
 }
 
 // The letters of spelling i as one number, the first of them in its lowest 8 bits; 0 past the last spelling.
+#[tactic(auto, unfolding(crate::specs::Spellings::spellings))]
 pub fn letters(i: usize) -> u64
     ensures { result ≡ as_number (letters_of i) }
 {
