@@ -2,14 +2,13 @@
 -- Assumes nothing.
 use mathlib.Core.Path.{◌≡◌, refl, sym, ap, ◌∙◌}
 use mathlib.Core.List.{List, [], ◌∷◌, ◌++◌, append_assoc, append-nil}
-use Prim.Native.Nat.{ℕ, zero, suc, ◌+◌, ◌*◌}
-use native.Mathlib.Nat.{add-zero}
+use Prim.Native.Nat.{ℕ, suc, ◌+◌, ◌*◌}
 use native.Mathlib.Omega.{arith}
 use lib.ListN.{length, length-append}
 use Rattle.signs.specs.declared.sign.Sign.{Sign}
-use Rattle.signs.specs.declared.sign.Sign.TheVariants.{LeftRepeat, RightRepeat, OpenEnding, CloseEnding}
+use Rattle.signs.specs.declared.sign.Sign.TheVariants.{RightRepeat, OpenEnding, CloseEnding}
 use Rattle.score.specs.Trees.{Leaf, block, Left, written, lacking, Run, nil, ◌▸◌, Item, leaf, repeat, group, Ends, no_more, ◌then◌}
-use Rattle.score.specs.Spelling.{leaf_sign, left_signs, run_signs, item_signs, ends_signs}
+use Rattle.score.specs.Spelling.{left_signs, run_signs, item_signs, ends_signs}
 use Rattle.score.specs.Played.{run_plays, item_plays, ends_play, beats}
 use Rattle.score.specs.Steps.{count, run_steps, item_steps, ends_steps}
 use Rattle.score.specs.Sums.{total, each}
@@ -17,11 +16,9 @@ use Rattle.score.specs.Depth.{inner, left_around, run_around, item_around, ends_
 use Rattle.score.specs.Sizes.{lacks, run_loops, item_loops, ends_loops, run_implied, item_implied, ends_implied, run_labels, item_labels, ends_labels}
 use Rattle.score.proofs.Calls.{total-append}
 use Rattle.grammar.specs.declared.tally.Tally.{Tally}
-use Rattle.grammar.specs.declared.stretch.Stretch.{Stretch}
-use Rattle.grammar.specs.declared.stretch.Begun.{Begun}
-use Rattle.grammar.specs.Tallies.{capped, tally, nothing, block_tally, joined, repeated, grouped}
-use Rattle.grammar.specs.Stretches.{first_of, open_at, stretch, empty_stretch, block_stretch, followed, closed_as, beginning, begun_as, went_on, finished_as, last_of, ends_total, run_tally, ends_tally, deep_of, summed, open_signs, open_around, begun}
-use Rattle.grammar.proofs.Capped.{add_left, add_right, times_left, times_right, twice}
+use Rattle.grammar.specs.Tallies.{capped, tally, nothing, joined, repeated, grouped}
+use Rattle.grammar.specs.Stretches.{first_of, open_at, stretch, empty_stretch, block_stretch, followed, closed_as, beginning, begun_as, went_on, finished_as, ends_total, run_tally, ends_tally, deep_of, summed, open_signs, open_around, begun}
+use Rattle.grammar.proofs.Capped.{add_left, add_right, times_left, times_right}
 use Rattle.grammar.proofs.Deep.{first_none, deep_other, deep_left, deep_append, deep_one, deep_two, deep_run, left_around_lem, run_around_lem, ends_around_lem}
 
 pub same_tally : {a b c d e f a' b' c' d' e' f' : ℕ} → a ≡ a' → b ≡ b' → c ≡ c' → d ≡ d' → e ≡ e' → f ≡ f' → tally a b c d e f ≡ tally a' b' c' d' e' f'

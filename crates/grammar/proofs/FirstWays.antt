@@ -9,7 +9,7 @@ use lib.ListN.{length, drop}
 use Rattle.score.specs.Trees.{lacking, Run, nil, ◌▸◌, Item, repeat, no_more}
 use Rattle.score.specs.Readings.{is_group}
 use Rattle.score.proofs.Alphabet.{closes, left}
-use Rattle.score.proofs.Reader.{ended, halted, item, halted_in, after_first, read_run, read_ends, read_implied}
+use Rattle.score.proofs.Reader.{ended, halted, read_run, read_ends, read_implied}
 use Rattle.grammar.specs.declared.run.Ran.{Ran}
 use Rattle.grammar.specs.declared.run.Ran.TheVariants.{Ended, Halted}
 use Rattle.grammar.specs.declared.stretch.Stretch.{Stretch}

@@ -2,9 +2,9 @@
 -- Assumes nothing.
 use mathlib.Core.Path.{◌≡◌, refl, sym, ap, ◌∙◌}
 use mathlib.Core.Bool.{Bool, true, false, cond, ◌&&◌}
-use mathlib.Core.Option.{Option, none, some}
+use mathlib.Core.Option.{none, some}
 use mathlib.Core.List.{List, [], ◌∷◌}
-use Prim.Native.Nat.{ℕ, zero, suc, ◌+◌, ◌≤◌, ◌<◌}
+use Prim.Native.Nat.{ℕ, suc, ◌+◌, ◌≤◌, ◌<◌}
 use native.Mathlib.Omega.{arith}
 use native.Mathlib.Numerals.{add-one}
 use lib.Dec.{eqb, ltb}
@@ -14,8 +14,8 @@ use Rattle.signs.specs.Words.{sign_of}
 use Rattle.score.specs.Trees.{block, Left, Run, ◌▸◌, Item, Ends}
 use Rattle.score.specs.Readings.{is_group}
 use Rattle.score.proofs.Alphabet.{Mark, to_dc, to_dc_coda, to_dc_fine, to_ds, to_ds_coda, to_ds_fine, at_segno, at_coda, at_to_coda, at_fine, Kind, plays, time, opens, closes, left, right, mark, strange, kind_of}
-use Rattle.score.proofs.Reader.{ended, halted_in, item, Got, read_run, after_run, after_end, after_first, part_end, Ran, halted, past, past_if, continues, continues_left}
-use Rattle.grammar.specs.Kinds.{kinds_of, mark_code, code, head_code, kind_beats, head_beats, kind_at, beats_at, halt_at, goes_on}
+use Rattle.score.proofs.Reader.{ended, halted_in, Got, read_run, after_run, after_end, after_first, part_end, Ran, halted, past, past_if, continues, continues_left}
+use Rattle.grammar.specs.Kinds.{kinds_of, mark_code, code, head_code, head_beats, kind_at, beats_at, halt_at, goes_on}
 use Rattle.grammar.proofs.Places.{here, past_end}
 
 -- a sign whose kind has a number stands at a place

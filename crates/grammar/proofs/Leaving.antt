@@ -3,7 +3,7 @@
 use mathlib.Core.Path.{◌≡◌, refl, sym, ap, ap₂, ◌∙◌}
 use mathlib.Core.Bool.{true, false, cond}
 use mathlib.Core.List.{List, [], ◌∷◌, ◌++◌, append_assoc, append-nil}
-use mathlib.Core.Option.{Option, none, some}
+use mathlib.Core.Option.{some}
 use Prim.Native.Nat.{ℕ, ◌+◌}
 use native.Mathlib.Nat.{zero-add}
 use native.Mathlib.Omega.{arith}
@@ -17,22 +17,21 @@ use Rattle.score.specs.declared.Shape.TheVariants.{Straight, DaCapo, DalSegno, D
 use Rattle.score.specs.declared.Time.{Time}
 use Rattle.score.specs.declared.Time.TheVariants.{Untimed, Timed}
 use Rattle.score.specs.Trees.{Run, nil}
-use Rattle.score.specs.Shapes.{Score, score}
+use Rattle.score.specs.Shapes.{score}
 use Rattle.score.specs.Spelling.{run_signs, time_signs, signs_of}
 use Rattle.score.specs.Played.{run_plays, beats}
 use Rattle.score.specs.Steps.{run_steps}
 use Rattle.score.specs.Sums.{total, each}
 use Rattle.score.specs.Depth.{run_around, time_around, around, is_left}
 use Rattle.score.specs.Sizes.{run_loops, run_implied, run_labels}
-use Rattle.score.proofs.Machine.{Later, in_b_ds, in_b_fine, in_b_coda, in_c_fine, in_c_coda, in_c_dc, in_d, Part, in_a, later, Wait, coda_dc, coda_ds, over, edges, wait_edges, finish_part, finish, wait}
+use Rattle.score.proofs.Machine.{in_b_ds, in_b_fine, in_b_coda, in_c_fine, in_c_coda, in_c_dc, in_d, Part, in_a, later, Wait, coda_dc, coda_ds, over, edges, wait_edges, finish_part, finish, wait}
 use Rattle.grammar.specs.declared.tally.Tally.{Tally}
-use Rattle.grammar.specs.declared.whole.Sofar.{Sofar}
-use Rattle.grammar.specs.Tallies.{capped, nothing, joined}
-use Rattle.grammar.specs.Stretches.{first_of, empty_stretch, run_tally, deep_of, summed}
+use Rattle.grammar.specs.Tallies.{capped, joined}
+use Rattle.grammar.specs.Stretches.{first_of, run_tally, deep_of, summed}
 use Rattle.grammar.specs.Parts.{arrows, finished, sofar, moved_as, ended_as, kept, four, once_of, signs_to, around_to, shape_code, replayed, score_sofar, part_sofar, wait_sofar, Jumps, Between}
-use Rattle.grammar.specs.Wholes.{Leaves, Edges, Ends}
+use Rattle.grammar.specs.Wholes.{Leaves}
 use Rattle.grammar.proofs.Deep.{first_last, deep_append, deep_one, deep_run, run_around_lem}
-use Rattle.grammar.proofs.Adding.{same_tally, sum, empty_is}
+use Rattle.grammar.proofs.Adding.{same_tally, sum}
 
 same_sofar : {a p d a' p' d' : ℕ} {t u t' u' : Tally} → a ≡ a' → p ≡ p' → d ≡ d' → t ≡ t' → u ≡ u' → sofar a p d t u ≡ sofar a' p' d' t' u'
 same_sofar p q r s t = cc

@@ -9,8 +9,8 @@ use Prim.Native.Nat.{ℕ, zero, suc, ◌≤◌, ◌<◌}
 use native.Mathlib.Omega.{arith}
 use lib.ListN.{length, drop, get_or}
 use Rattle.signs.specs.Words.{sign_of}
-use Rattle.score.proofs.Alphabet.{Kind, kind_of}
-use Rattle.grammar.specs.Kinds.{kinds_of, head_code, head_beats, kind_at, beats_at, code, kind_beats}
+use Rattle.score.proofs.Alphabet.{kind_of}
+use Rattle.grammar.specs.Kinds.{kinds_of, kind_at, beats_at, code, kind_beats}
 
 pub here : (w : List ℕ) (at : ℕ) → at < length w → drop at (kinds_of w) ≡ kind_of (sign_of (get_or w at 0)) ∷ drop (suc at) (kinds_of w)
 here [] at h = absurd (omega arith)

@@ -3,33 +3,32 @@
 use mathlib.Core.Path.{◌≡◌, refl, sym, ap, subst, ◌∙◌}
 use mathlib.Core.Bool.{Bool, true, false, cond}
 use mathlib.Core.List.{List, [], ◌∷◌}
-use Prim.Native.Nat.{ℕ, suc, ◌+◌, ◌-◌, ◌≤◌, ◌<◌}
+use Prim.Native.Nat.{ℕ, suc, ◌+◌, ◌≤◌, ◌<◌}
 use native.Mathlib.Omega.{arith}
 use lib.Dec.{eqb}
 use lib.ListN.{length, drop}
 use borrow.Author.Tests.{eqb-true, eqb-false}
 use Rattle.score.specs.declared.Time.{Time}
 use Rattle.score.specs.declared.Time.TheVariants.{Untimed, Timed}
-use Rattle.score.specs.Trees.{block, Run, nil, ◌▸◌, Item, leaf}
+use Rattle.score.specs.Trees.{block, nil, ◌▸◌, leaf}
 use Rattle.score.specs.Spelling.{time_signs}
 use Rattle.score.proofs.Alphabet.{Kind, plays, time, opens, closes, left, right, mark, strange}
 use Rattle.score.proofs.Machine.{State, in_a, edges, finish_part}
-use Rattle.score.proofs.Reader.{item, halted_in, done, stop, fuel, from, read_implied, start_item, read_start, read_score}
-use Rattle.grammar.specs.declared.run.Ran.{Ran}
+use Rattle.score.proofs.Reader.{stop, fuel, from, read_start, read_score}
 use Rattle.grammar.specs.declared.run.Ran.TheVariants.{Ended, Halted as Stopped}
 use Rattle.grammar.specs.declared.stretch.Stretch.{Stretch}
 use Rattle.grammar.specs.declared.whole.Whole.{Whole}
-use Rattle.grammar.specs.declared.whole.Whole.TheVariants.{Read, Halted}
+use Rattle.grammar.specs.declared.whole.Whole.TheVariants.{Halted}
 use Rattle.grammar.specs.Kinds.{kinds_of, code, head_code, kind_at, beats_at}
 use Rattle.grammar.specs.Tallies.{capped}
-use Rattle.grammar.specs.Stretches.{block_stretch, summed, run_tally, deep_of}
+use Rattle.grammar.specs.Stretches.{block_stretch, run_tally, deep_of}
 use Rattle.grammar.specs.Promises.{enough, GroupIs}
 use Rattle.grammar.specs.First.{FirstIs}
 use Rattle.grammar.specs.Parts.{once_of, part_sofar}
-use Rattle.grammar.specs.Wholes.{FinIs, GoesOn, LeaveIs, start_at, opened_as, RestIs, ScoreIs}
+use Rattle.grammar.specs.Wholes.{GoesOn, LeaveIs, start_at, opened_as, RestIs, ScoreIs}
 use Rattle.grammar.proofs.Adding.{block_is}
-use Rattle.grammar.proofs.Heads.{Stands, stands, BlockAt, block_at, bracket_at, mark_high}
-use Rattle.grammar.proofs.WholeWays.{kinds_left, run_fuel, part_sign, leaves_as}
+use Rattle.grammar.proofs.Heads.{Stands, stands, block_at, bracket_at, mark_high}
+use Rattle.grammar.proofs.WholeWays.{kinds_left, part_sign, leaves_as}
 
 opened_is : (t : Time) (start : ℕ) → start ≡ length (time_signs t) → opened_as start ≡ part_sofar (in_a t)
 unfolding once_of run_tally deep_of capped

@@ -1,27 +1,26 @@
 -- Each way through the readers of runs, groups and endings is a law: what the callees promise makes what the caller promises.
 -- Assumes nothing.
-use mathlib.Core.Path.{◌≡◌, refl, sym, ap, ap₂, subst, ◌∙◌}
+use mathlib.Core.Path.{◌≡◌, sym, ap, ap₂, subst, ◌∙◌}
 use mathlib.Core.Bool.{Bool, true, false, cond}
-use mathlib.Core.Option.{none, some}
 use mathlib.Core.List.{List, ◌∷◌}
 use Prim.Native.Nat.{ℕ, zero, suc, ◌+◌, ◌-◌, ◌*◌, ◌≤◌, ◌<◌}
 use native.Mathlib.Omega.{arith}
 use native.Mathlib.Numerals.{add-one}
 use lib.ListN.{length, drop}
-use Rattle.score.specs.Trees.{Leaf, block, Left, written, Run, nil, ◌▸◌, Item, leaf, repeat, group, Ends, no_more, ◌then◌}
+use Rattle.score.specs.Trees.{block, Left, written, Run, nil, ◌▸◌, Item, leaf, repeat, group, Ends, no_more, ◌then◌}
 use Rattle.score.specs.Spelling.{run_signs}
 use Rattle.score.specs.Readings.{is_group}
 use Rattle.score.specs.Steps.{count}
 use Rattle.score.specs.Depth.{inner}
-use Rattle.score.proofs.Alphabet.{Kind, plays, opens, closes, left, right}
-use Rattle.score.proofs.Reader.{ended, halted, item, halted_in, on_item, after_run, after_end, after_right, past_if, read_run, read_group, read_ends}
+use Rattle.score.proofs.Alphabet.{opens, left, right}
+use Rattle.score.proofs.Reader.{ended, halted, halted_in, read_run, read_group, read_ends}
 use Rattle.grammar.specs.declared.run.Ran.{Ran}
 use Rattle.grammar.specs.declared.run.Ran.TheVariants.{Ended, Halted}
 use Rattle.grammar.specs.declared.stretch.Stretch.{Stretch}
 use Rattle.grammar.specs.declared.stretch.Begun.{Begun}
 use Rattle.grammar.specs.Tallies.{capped}
 use Rattle.grammar.specs.Kinds.{kinds_of, kind_at, beats_at, halt_at, goes_on}
-use Rattle.grammar.specs.Stretches.{open_at, empty_stretch, block_stretch, followed, closed_as, begun_as, went_on, finished_as, last_of, summed, begun}
+use Rattle.grammar.specs.Stretches.{open_at, empty_stretch, block_stretch, followed, closed_as, begun_as, went_on, finished_as, summed, begun}
 use Rattle.grammar.specs.Promises.{enough, Runs, RunIs, Groups, GroupIs, Closes, EndsIs}
 use Rattle.grammar.proofs.Heads.{bracket_at, BlockAt, block_at, run_ends, run_wrong, end_wrong, halt_is, halt_within, goes_on_lem}
 use Rattle.grammar.proofs.Capped.{none_of_some}
@@ -281,6 +280,6 @@ module _ (w : List ℕ) (d : ℕ) (g : Begun) where
                   (ap₂ (λ u v. went_on (v.at + 1 + 2) u v) e (ended_as_lem n h b p o m es j e) ∙ go_on_is b p o m es (c.before ▸ c.last)))) f l,
             )
 
--- a callee's promise, with what it was given and what it answered as they are known
-pub from_empty : (w : List ℕ) (k start : ℕ) {s : Stretch} {r y : Ran} → s ≡ empty_stretch start → r ≡ y → RunIs w k s r → RunIs w k (empty_stretch start) y
-from_empty w k start {s} {r} {y} e h m = subst (RunIs w k (empty_stretch start)) h (subst (λ (q : Stretch). RunIs w k q r) e m)
+-- a callee's promise, with what it was given as it is known
+pub from_empty : (w : List ℕ) (k start : ℕ) (s : Stretch) (r : Ran) → s ≡ empty_stretch start → RunIs w k s r → RunIs w k (empty_stretch start) r
+from_empty w k start s r e m = subst (λ (q : Stretch). RunIs w k q r) e m

@@ -1,6 +1,6 @@
 -- Each way through the reader of a whole score is a law.
 -- Assumes nothing.
-use mathlib.Core.Path.{◌≡◌, refl, sym, ap, subst, ◌∙◌}
+use mathlib.Core.Path.{◌≡◌, refl, sym, ap, ◌∙◌}
 use mathlib.Core.Bool.{Bool, true, false, cond}
 use mathlib.Core.List.{List, [], ◌∷◌, map}
 use mathlib.Core.Option.{Option, none, some}
@@ -14,18 +14,17 @@ use Rattle.score.specs.declared.Shape.{Shape}
 use Rattle.score.specs.declared.Shape.TheVariants.{Straight, DaCapo, DalSegno, DaCapoFine, DalSegnoFine, DaCapoCoda, DalSegnoCoda}
 use Rattle.score.specs.Trees.{Run, nil, ◌▸◌}
 use Rattle.score.specs.Readings.{is_group}
-use Rattle.score.specs.Shapes.{Score, score, shape_of}
+use Rattle.score.specs.Shapes.{Score, score}
 use Rattle.score.proofs.Alphabet.{Mark, to_dc, to_dc_coda, to_dc_fine, to_ds, to_ds_coda, to_ds_fine, at_segno, at_coda, at_to_coda, at_fine, Mark-discrete, Kind, plays, time, opens, closes, left, right, mark, strange}
-use Rattle.score.proofs.Machine.{Later, in_b_ds, in_b_fine, in_b_coda, in_c_fine, in_c_coda, in_c_dc, in_d, Part, in_a, later, Wait, coda_dc, coda_ds, over, bot, in_rep, in_end, State, at, half, sep, wait, Edge, ◌to◌, find, edges, wait_edges, finish_part, finish}
-use Rattle.score.proofs.Reader.{Fin, done, stop, fin_out, fin_on, ended, halted, read_run, part_end, leave_part, wait_on, fuel, read_state}
+use Rattle.score.proofs.Machine.{in_b_ds, in_b_fine, in_b_coda, in_c_fine, in_c_coda, in_c_dc, in_d, Part, in_a, later, Wait, coda_dc, coda_ds, over, bot, in_rep, in_end, State, at, half, sep, wait, Edge, ◌to◌, find, edges, wait_edges, finish_part, finish}
+use Rattle.score.proofs.Reader.{Fin, stop, fin_out, fin_on, ended, leave_part, wait_on, fuel, read_state}
 use Rattle.grammar.specs.declared.stretch.Stretch.{Stretch}
 use Rattle.grammar.specs.declared.whole.Sofar.{Sofar}
 use Rattle.grammar.specs.declared.whole.Whole.{Whole}
 use Rattle.grammar.specs.declared.whole.Whole.TheVariants.{Read, Halted}
 use Rattle.grammar.specs.Kinds.{kinds_of, mark_code, code, head_code, kind_at, halt_at}
-use Rattle.grammar.specs.Parts.{along, leads, finished, moved_as, ended_as, shape_code, score_sofar, part_sofar, wait_sofar, state_sofar, Between}
+use Rattle.grammar.specs.Parts.{along, leads, finished, moved_as, ended_as, shape_code, part_sofar, wait_sofar, state_sofar, Between}
 use Rattle.grammar.specs.Wholes.{FinIs, FromIs, on_sign, edge_arrow, Edges, Ends, Leaves, GoesOn, LeaveIs}
-use Rattle.grammar.specs.declared.run.Ran.{Ran}
 use Rattle.grammar.specs.declared.run.Ran.TheVariants.{Ended, Halted as Stopped}
 use Rattle.grammar.specs.Stretches.{empty_stretch, summed}
 use Rattle.grammar.specs.Promises.{enough, RunIs}

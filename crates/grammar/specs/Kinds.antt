@@ -1,6 +1,6 @@
 -- The kinds of signs as numbers, and what is told of the signs from a place on.
 -- Assumes nothing.
-use Rattle.std.specs.Prelude.{Bool, true, false, cond, ◌&&◌, List, [], ◌∷◌, map, ℕ, ◌+◌, eqb, drop}
+use Rattle.std.specs.Prelude.{Bool, cond, ◌&&◌, List, [], ◌∷◌, map, ℕ, ◌+◌, eqb, drop}
 use Rattle.signs.specs.Words.{sign_of}
 use Rattle.score.specs.Played.{beats}
 use Rattle.score.proofs.Alphabet.{Mark, to_dc, to_dc_coda, to_dc_fine, to_ds, to_ds_coda, to_ds_fine, at_segno, at_coda, at_to_coda, at_fine, Kind, plays, time, opens, closes, left, right, mark, strange, kind_of}

@@ -1,8 +1,7 @@
 -- The parts of a score by numbers: where the signs between runs lead, and what is kept of what was read.
 -- Assumes nothing.
 use Rattle.std.specs.Prelude.{cond, List, [], ◌∷◌, ◌++◌, ℕ, ◌+◌, eqb, ltb, length}
-use Rattle.std.proofs.Math.Option.{Option, none, some}
-use Rattle.signs.specs.declared.sign.Jumped.TheVariants.{Dc, DcCoda, DcFine, Ds, DsCoda, DsFine}
+use Rattle.signs.specs.declared.sign.Jumped.TheVariants.{DcCoda, DsCoda}
 use Rattle.signs.specs.declared.sign.Sign.{Sign}
 use Rattle.signs.specs.declared.sign.Sign.TheVariants.{Jump, Segno, Coda, ToCoda, Fine}
 use Rattle.score.specs.declared.Shape.{Shape}
@@ -14,7 +13,7 @@ use Rattle.score.specs.Played.{run_plays, beats}
 use Rattle.score.specs.Steps.{run_steps}
 use Rattle.score.specs.Sums.{total, each}
 use Rattle.score.specs.Depth.{run_around, time_around, around}
-use Rattle.score.specs.Sizes.{run_loops, run_implied, run_labels, over_runs}
+use Rattle.score.specs.Sizes.{run_loops, run_implied, run_labels}
 use Rattle.score.proofs.Machine.{Later, in_b_ds, in_b_fine, in_b_coda, in_c_fine, in_c_coda, in_c_dc, in_d, Part, in_a, later, Wait, coda_dc, coda_ds, over, bot, in_rep, in_end, State, at, half, sep, wait}
 use Rattle.grammar.specs.declared.tally.Tally.{Tally}
 use Rattle.grammar.specs.declared.stretch.Stretch.{Stretch}

@@ -1,6 +1,6 @@
 -- What the readers of runs, groups and endings promise each other: each answer is that of the definition's reader, at every fuel that suffices.
 -- Assumes nothing.
-use Rattle.std.specs.Prelude.{◌≡◌, List, ℕ, suc, ◌+◌, ◌-◌, ◌*◌, ◌≤◌, ◌<◌, length, drop}
+use Rattle.std.specs.Prelude.{◌≡◌, List, ℕ, ◌+◌, ◌-◌, ◌*◌, ◌≤◌, ◌<◌, length, drop}
 use Rattle.score.specs.Trees.{Left, Run, nil, ◌▸◌, Item, Ends}
 use Rattle.score.specs.Depth.{inner}
 use Rattle.score.proofs.Reader.{ended, halted, item, halted_in, read_run, read_group, read_ends}

@@ -4,7 +4,7 @@ use Rattle.std.specs.Prelude.{cond, List, ◌++◌, ℕ, suc, ◌+◌, eqb, ltb,
 use Rattle.std.proofs.Math.Option.{Option, none, some}
 use Rattle.refusals.specs.Limits.{document01}
 use Rattle.signs.specs.declared.sign.Sign.{Sign}
-use Rattle.score.specs.Trees.{Leaf, Left, Run, nil, ◌▸◌, Item, Ends, no_more, ◌then◌}
+use Rattle.score.specs.Trees.{Leaf, Left, Run, nil, ◌▸◌, Ends, no_more, ◌then◌}
 use Rattle.score.specs.Spelling.{left_signs, run_signs, ends_signs}
 use Rattle.score.specs.Readings.{is_group}
 use Rattle.score.specs.Played.{run_plays, beats}

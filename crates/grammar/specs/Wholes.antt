@@ -3,9 +3,9 @@
 use Rattle.std.specs.Prelude.{◌≡◌, true, cond, List, [], ◌∷◌, map, ℕ, ◌+◌, ◌-◌, ◌≤◌, ◌<◌, eqb, length, drop}
 use Rattle.std.proofs.Math.Option.{Option, none, some}
 use Rattle.score.specs.declared.Time.{Time}
-use Rattle.score.specs.Shapes.{Score, time_of, shape_of}
+use Rattle.score.specs.Shapes.{Score, shape_of}
 use Rattle.score.proofs.Alphabet.{Kind, plays, time, opens, closes, left, right, mark, strange}
-use Rattle.score.proofs.Machine.{Later, in_b_ds, in_b_fine, in_b_coda, in_c_fine, in_c_coda, in_c_dc, in_d, Part, in_a, later, Wait, coda_dc, coda_ds, over, bot, State, at, half, sep, wait, in_rep, in_end, Edge, ◌to◌, find}
+use Rattle.score.proofs.Machine.{State, Edge, ◌to◌, find}
 use Rattle.score.specs.Trees.{nil, ◌▸◌, Item}
 use Rattle.score.specs.Spelling.{time_signs}
 use Rattle.score.proofs.Reader.{item, Fin, done, stop, fin_out, fin_on, read_state, start_item, read_score}

@@ -1,4 +1,7 @@
 // The readers of a score: whether a list of sign words is one, and what its runs come to.
+
+#![tactic(auto)]
+
 mod first;
 mod kind;
 mod run;

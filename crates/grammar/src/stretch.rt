@@ -25,6 +25,7 @@ pub struct Begun {
     pub ends: Tally,
 }
 
+#[tactic(auto, unfolding(crate::specs::Stretches::first_of))]
 pub fn first(a: usize, b: usize) -> usize
     ensures { result ≡ first_of a b }
 {
@@ -32,6 +33,7 @@ pub fn first(a: usize, b: usize) -> usize
 }
 
 // A `|:` before the place `next` that stands where `depth` are open.
+#[tactic(auto, unfolding(crate::specs::Stretches::open_at))]
 pub fn opening(depth: usize, next: usize) -> usize
     ensures { result ≡ open_at depth next }
 {

@@ -6,7 +6,7 @@ ghost use Rattle.grammar.specs.Tallies.{capped, nothing, block_tally, joined, re
 pub const MOST: u64 = 1000000000000;
 
 // What is counted of a run: loops, those of them that are implied, labels, blocks and beats played, and steps.
-#[derive(Drop)]
+#[derive(Clone, Copy)]
 pub struct Tally {
     pub loops: u64,
     pub implied: u64,

@@ -1,4 +1,5 @@
 // Entries of a played list.
+#![tactic(auto)]
 
 // A block of l beats from written beat k on, played from performed beat z on.
 #[derive(Drop)]

@@ -1,5 +1,7 @@
 // The reading of a score: its grammar, what it plays, its numbers and limits, and the laws of all these.
 
+#![tactic(auto)]
+
 // The seven shapes of a score.
 #[derive(Drop)]
 pub enum Shape {
