@@ -1,7 +1,7 @@
 // Entries of a played list.
 
 // A block of l beats from written beat k on, played from performed beat z on.
-#[derive(Drop)]
+#[derive(Clone, Copy)]
 pub struct Played {
     pub k: u32,
     pub l: u32,
