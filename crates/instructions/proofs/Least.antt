@@ -33,9 +33,13 @@ shifted f n m h =
     record {
       low = omega arith;
       high = omega (arith, h.high);
-      before = λ j. elim j [ zero ↦ λ a b. absurd (omega arith) | suc k ↦ λ a b. h.before k (omega arith) (omega arith) ];
+      before = before;
       found = λ a. h.found (omega arith);
     }
+  where
+    before : (j : ℕ) → 1 ≤ j → j < suc m → f j ≡ false
+    before zero a b = absurd (omega arith)
+    before (suc k) a b = h.before k (omega arith) (omega arith)
 
 pub least_first : (f : ℕ → Bool) (n : ℕ) → FirstFrom f 0 n (least f n)
 unfolding least

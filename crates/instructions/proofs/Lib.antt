@@ -1,7 +1,6 @@
 -- The laws of words and of listings.
 pub mod Inverse
 pub mod Least
-mod Arms
 pub mod Marks
 pub mod Listings
 pub mod Tables

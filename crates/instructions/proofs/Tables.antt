@@ -75,10 +75,6 @@ module _ (named : Unpacked → Option ℕ) (listing : List ℕ) where
   pub filled_all : (entries : List ℕ) (x : ℕ) → Filled named listing 0 entries → x < length entries → get_or entries x 0 ≡ first_place named listing x
   filled_all entries x h lt = first_is_least (names named listing x) (length listing) (get_or entries x 0) (h.each x lt)
 
--- a table that started as k entries has k entries
-pub still : (k v : ℕ) (entries : List ℕ) → length entries ≡ length (replicate k v) → k ≤ length entries
-still k v entries e = omega (arith, length-replicate k v)
-
 -- a list of n numbers is the table of a function that it agrees with
 pub table_is : (n : ℕ) (f : ℕ → ℕ) (xs : List ℕ) → length xs ≡ n → ((x : ℕ) → x < n → get_or xs x 0 ≡ f x) → xs ≡ table n f
 unfolding table

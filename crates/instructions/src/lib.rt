@@ -1,4 +1,6 @@
 // Document 01's instructions, one word each in a listing.
+#![tactic(auto)]
+
 pub mod listing;
 
 ghost use Rattle.std.specs.Prelude.{◌≡◌};
@@ -6,7 +8,7 @@ ghost use Rattle.instructions.specs.Forms.{beside};
 ghost use Rattle.instructions.specs.Words.{packed, decoded, unpacked, word, block_word};
 
 // What an instruction does; the loop and the label that it names stand beside it.
-#[derive(Drop)]
+#[derive(Clone, Copy)]
 pub enum Operation {
     // Play the block of these two numbers, k and l.
     Block(u32, u32),
@@ -23,7 +25,7 @@ pub enum Operation {
 }
 
 // A number that the operation does not use is 0.
-#[derive(Drop)]
+#[derive(Clone, Copy)]
 pub struct Instruction {
     pub operation: Operation,
     pub loop_number: u8,
@@ -31,7 +33,7 @@ pub struct Instruction {
 }
 
 // What a word is: an instruction, or nothing.
-#[derive(Drop)]
+#[derive(Clone, Copy)]
 pub enum Unpacked {
     Is(Instruction),
     Nothing,
@@ -59,6 +61,7 @@ fn join_block(k: u32, l: u32) -> u64
 }
 
 // The instruction's word; 0 where a number does not fit or an unused one is not 0.
+#[tactic(auto, unfolding(crate::specs::Words::packed))]
 pub fn pack(i: Instruction) -> u64
     ensures { result ≡ packed i }
 {
@@ -95,6 +98,7 @@ fn make(operation: Operation, loop_number: u8, label_number: u32) -> Instruction
 }
 
 // The instruction that the word's kind and numbers make.
+#[tactic(auto, unfolding(crate::specs::Words::decoded))]
 pub fn decode(word: u64) -> Instruction
     ensures { result ≡ decoded word }
 {
@@ -115,6 +119,7 @@ pub fn decode(word: u64) -> Instruction
 }
 
 // What the word is: an instruction exactly when it is the packing of one.
+#[tactic(auto, unfolding(crate::specs::Words::unpacked))]
 pub fn unpack(word: u64) -> Unpacked
     ensures { result ≡ unpacked word }
 {

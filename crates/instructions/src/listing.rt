@@ -249,6 +249,7 @@ pub fn check(listing: &[u64]) -> Checked
 }
 
 // Test 11: good, or the first instruction that breaks a rule.
+#[tactic(auto, unfolding(crate::specs::Test::checking))]
 pub fn test(listing: &[u64]) -> Tested
     ensures { result ≡ test_listing document01 listing.now }
 {

@@ -1,10 +1,12 @@
 // The machine that runs a listing: where it stands.
+#![tactic(auto)]
+
 ghost use Rattle.std.specs.Prelude.{◌≡◌};
 ghost use Rattle.refusals.specs.Limits.{document01};
 ghost use Rattle.machine.specs.Machine.{fresh_of};
 
 // A saved position: the next instruction's place, the loops' counts, and the performed beat.
-#[derive(Drop)]
+#[derive(Clone, Copy)]
 pub struct Position {
     pub next: u32,
     pub counts: [u16; refusals::LOOPS],

@@ -2,7 +2,7 @@
 #![tactic(auto)]
 
 // A block of l beats from written beat k on, played from performed beat z on.
-#[derive(Drop)]
+#[derive(Clone, Copy)]
 pub struct Played {
     pub k: u32,
     pub l: u32,

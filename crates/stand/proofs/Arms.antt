@@ -1,29 +1,17 @@
--- An operation that is not the one that was looked for: what is left of its tag.
+-- An operation that plays nothing: it is any but a block.
 -- Assumes nothing.
 use mathlib.Core.Path.{◌≡◌, refl}
 use mathlib.Core.Bool.{Bool, true, false, cond}
-use mathlib.Core.List.{List, [], ◌∷◌}
+use mathlib.Core.List.{List, []}
 use mathlib.Core.Option.{some}
 use Prim.Native.Nat.{ℕ}
 use lib.ListN.{get_or}
 use lib.Dec.{ltb}
-use types.Run.{OneOf, miss}
-use denote.Enum.Declared.{tag_of}
-use Rattle.instructions.specs.contracts.Operation.{the_type}
 use Rattle.instructions.specs.declared.Operation.{Operation}
 use Rattle.instructions.specs.declared.Operation.TheVariants.{Block, Loop, Repeat, Label, Jump, JumpUnless}
 use Rattle.instructions.specs.declared.Instruction.{Instruction}
 use Rattle.machine.specs.declared.Position.{Position}
 use Rattle.machine.specs.Machine.{plays_at, room_behind, does}
-use Rattle.stand.specs.Positions.{times_by}
-
-pub no_times : (o : Operation) → OneOf (0 ∷ 1 ∷ 3 ∷ 4 ∷ 5 ∷ []) (tag_of the_type o) → times_by o ≡ 0
-no_times (Block k l) t = refl
-no_times Loop t = refl
-no_times (Repeat T) t = absurd (miss (0 ∷ 1 ∷ 3 ∷ 4 ∷ 5 ∷ []) 2 tt t)
-no_times Label t = refl
-no_times (Jump T) t = refl
-no_times (JumpUnless T) t = refl
 
 -- an operation that plays nothing
 pub record Silent (o : Operation) : Type 0 where
@@ -35,8 +23,9 @@ same_beat : (z : ℕ) (t : Bool) (p q : Position) → p.beat ≡ z → q.beat �
 same_beat z true p q a b = a
 same_beat z false p q a b = b
 
-pub no_block : (o : Operation) → OneOf (1 ∷ 2 ∷ 3 ∷ 4 ∷ 5 ∷ []) (tag_of the_type o) → Silent o
-no_block (Block k l) t = absurd (miss (1 ∷ 2 ∷ 3 ∷ 4 ∷ 5 ∷ []) 0 tt t)
+-- every operation but a block
+pub no_block : (o : Operation) → ((k n : ℕ) → o ≡ Block k n → ⊥) → Silent o
+no_block (Block k l) t = absurd (t k l refl)
 no_block Loop t = record { plays = λ z. refl; room = λ r. refl; beat = λ listing p L B. refl }
 no_block (Repeat T) t = record { plays = λ z. refl; room = λ r. refl; beat = λ listing p L B. same_beat p.beat (ltb (get_or p.counts L 0) T) _ _ refl refl }
 no_block Label t = record { plays = λ z. refl; room = λ r. refl; beat = λ listing p L B. refl }

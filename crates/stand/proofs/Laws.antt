@@ -37,7 +37,7 @@ use Rattle.machine.proofs.Stays.{Repeats, Sound, Fits, stays}
 use Rattle.stand.specs.declared.Stop.{Stop}
 use Rattle.stand.specs.declared.Stop.TheVariants.{BufferFull, Halted}
 use Rattle.stand.specs.declared.Report.TheVariants.{Refused, Stopped}
-use Rattle.stand.specs.Positions.{Bad, beyond, above, not_there, late, times, position_fits}
+use Rattle.stand.specs.Positions.{Bad, beyond, above, not_there, late, position_fits}
 use Rattle.stand.specs.Steps.{program}
 use Rattle.stand.specs.Runs.{told, refused_by, refusal, written, outcome, Outcome, ran, decided, running}
 use Rattle.stand.specs.Chains.{Lent, sum, Chain, next}

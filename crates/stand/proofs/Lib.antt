@@ -5,9 +5,7 @@ mod Jumps
 mod Stepping
 mod Turning
 mod Opening
-mod LentValue
-mod Values
-mod LentArray
+mod Lending
 mod Single
 pub mod Laws
 pub mod Examples

@@ -1,4 +1,6 @@
 // The stand: runs a listing, and writes what it plays into a lent buffer.
+#![tactic(auto)]
+
 mod plain;
 mod position;
 mod runner;
@@ -11,7 +13,7 @@ use refusals::Refusal;
 pub use runner::run;
 
 // Why a run stopped.
-#[derive(Drop)]
+#[derive(Clone, Copy)]
 pub enum Stop {
     // Past the last instruction.
     Halted,

@@ -44,6 +44,7 @@ fn counts_fit(listing: &[u64], reps: &[usize; LOOPS], counts: &[u16; LOOPS]) -> 
 }
 
 // Test 12.
+#[tactic(auto, unfolding(crate::specs::Positions::position_fits))]
 pub(crate) fn fits(listing: &[u64], reps: &[usize; LOOPS], p: Position) -> bool
     requires { reps.now ≡ table document01.loops (rep_place listing.now) }
     ensures { result ≡ position_fits document01 listing.now p }

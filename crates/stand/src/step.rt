@@ -11,7 +11,7 @@ use instructions::{Instruction, Operation, pack};
 use refusals::LOOPS;
 
 // Where a run stands, but for the counts.
-#[derive(Drop)]
+#[derive(Clone, Copy)]
 pub struct Place {
     pub next: u32,
     pub beat: u64,

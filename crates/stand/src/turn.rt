@@ -11,7 +11,7 @@ use played::Played;
 use refusals::LOOPS;
 
 // What a run has done: why it stopped, its steps, the entries it wrote, and its place.
-#[derive(Drop)]
+#[derive(Clone, Copy)]
 pub struct Done {
     pub stop: Stop,
     pub steps: u32,
@@ -20,7 +20,7 @@ pub struct Done {
 }
 
 // A run on its way. Where it writes, the entry goes to place `to` of the buffer; where there is more, it goes on with so much room and so many steps.
-#[derive(Drop)]
+#[derive(Clone, Copy)]
 pub struct Turn {
     pub more: bool,
     pub writes: bool,
