@@ -1,4 +1,7 @@
 // A reader that keeps the text and its place, and hands out one sign at a time.
+
+#![tactic(auto)]
+
 ghost use Rattle.std.specs.Prelude.{◌≡◌};
 ghost use Rattle.refusals.specs.Limits.{document01};
 ghost use Rattle.signs.specs.Next.{next_sign};

@@ -16,7 +16,7 @@ use Rattle.signs.specs.Text.{starts}
 use Rattle.signs.specs.Words.{said_sign}
 use Rattle.signs.specs.Numbers.{leading, decimal, numeral, pair_at}
 use Rattle.signs.specs.Spellings.{spellings, longest}
-use Rattle.signs.specs.Next.{nothing, unreadable, coming, next_sign, said_next}
+use Rattle.signs.specs.Next.{unreadable, coming, next_sign, said_next}
 use Rattle.signs.proofs.Coming.{next_long}
 use Rattle.reading.specs.Reading.{scan_from, scanned, reading_of, said_reading}
 use Rattle.reading.proofs.Scanning.{long_text}

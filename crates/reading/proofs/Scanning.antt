@@ -2,8 +2,7 @@
 -- Assumes nothing.
 use mathlib.Core.Bool.{Bool, true, false, cond}
 use mathlib.Core.Path.{◌≡◌, refl, sym, ap, ◌∙◌}
-use mathlib.Core.List.{List, [], ◌∷◌, ◌++◌, map}
-use mathlib.Core.Logic.{⊎_elim}
+use mathlib.Core.List.{List, [], ◌++◌, map}
 use Prim.Native.Nat.{ℕ, zero, suc, ◌+◌, ◌-◌, ◌≤◌, ◌<◌}
 use native.Mathlib.Nat.{not-suc-le-zero}
 use native.Mathlib.Numerals.{add-one}
@@ -12,8 +11,6 @@ use borrow.Author.Tests.{lt-ltb, le-ltb, ltb-false}
 use lib.Dec.{ltb}
 use lib.ListN.{length, take, drop, set, get_or, length-set, length-map}
 use lib.Seq.{sets, sets-eq, set_at, drop-cons, take-suc, take_at, append_snoc, length-take-le}
-use types.Run.{OneOf}
-use denote.Enum.Declared.{tag_of}
 use Rattle.refusals.specs.declared.Refusal.{Refusal}
 use Rattle.refusals.specs.declared.Refusal.TheVariants.{TextTooLong, Unreadable, TooManySigns, NoRoom}
 use Rattle.refusals.specs.Limits.{Limits}
@@ -22,7 +19,6 @@ use Rattle.signs.specs.declared.next.Next.{Next}
 use Rattle.signs.specs.declared.next.Next.TheVariants.{Found, End, Refused as NoNext}
 use Rattle.signs.specs.Words.{word_of}
 use Rattle.signs.specs.Next.{Coming, sign, nothing, unreadable, coming, answered}
-use Rattle.signs.specs.contracts.next.Next.{the_type}
 use Rattle.signs.proofs.Coming.{coming_reach}
 use Rattle.signs.proofs.Gaps.{clash}
 use Rattle.reading.specs.declared.Reading.{Reading}
@@ -129,10 +125,10 @@ module _ (text words₀ words : List ℕ) (at n : ℕ) (k : ReadTo text words₀
       go (sign t b f) q a = clash (cc)
 
 -- what the arms of a `let else` know
-pub is_end : (n : Next) → OneOf (1 ∷ 2 ∷ []) (tag_of the_type n) → OneOf (0 ∷ 1 ∷ []) (tag_of the_type n) → n ≡ End
+pub is_end : (n : Next) → ((s : Sign) (e : ℕ) → n ≡ Found s e → ⊥) → ((r : Refusal) → n ≡ NoNext r → ⊥) → n ≡ End
 is_end End o p = refl
-is_end (NoNext r) o p = absurd (⊎_elim (λ e. omega arith) (λ e. omega arith) p)
-is_end (Found s q) o p = absurd (⊎_elim (λ e. omega arith) (λ e. omega arith) o)
+is_end (NoNext r) o p = absurd (p r refl)
+is_end (Found s e) o p = absurd (o s e refl)
 
 -- the first i words copied to the front of a buffer, and one more
 pub copy_more : (ws out : List ℕ) (i : ℕ) → i < length ws → i < length out → set (take i ws ++ drop i out) i (get_or ws i 0) ≡ take (i + 1) ws ++ drop (i + 1) out

@@ -1,6 +1,6 @@
 -- All signs of a text, in order, with the refusals 1, 2, 3 and 9.
 -- Assumes nothing.
-use Rattle.std.specs.Prelude.{Bool, true, false, cond, List, [], ◌∷◌, ◌++◌, map, ℕ, zero, suc, ◌-◌, ltb, length, drop}
+use Rattle.std.specs.Prelude.{cond, List, [], ◌∷◌, ◌++◌, map, ℕ, zero, suc, ◌-◌, ltb, length, drop}
 use Rattle.refusals.specs.declared.Refusal.TheVariants.{TextTooLong, Unreadable, TooManySigns, NoRoom}
 use Rattle.refusals.specs.Limits.{Limits}
 use Rattle.refusals.specs.Said.{Said, said, said_refusal}

@@ -12,7 +12,7 @@ pub use limits::{BEAT, BLOCKS, BYTES, DEPTH, INSTRUCTIONS, LABELS, LOOPS, NUMBER
 
 // A case for each way to be refused. Two have the number 5: what is wrong with a score's number and what the writer can't spell are
 // mended at different desks; a text, a list or a buffer that is too long or too short is mended in the same way whoever says so.
-#[derive(Drop)]
+#[derive(Clone, Copy)]
 pub enum Refusal {
     // The text is too long.
     TextTooLong,

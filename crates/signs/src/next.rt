@@ -9,7 +9,7 @@ use crate::text::past;
 use refusals::Refusal;
 
 // What comes next: a sign and the place after it, the end of the text, or a refusal.
-#[derive(Drop)]
+#[derive(Clone, Copy)]
 pub enum Next {
     Found(Sign, usize),
     End,

@@ -1,7 +1,7 @@
 // The sixteen kinds of signs.
 
 // The D.C. and D.S. signs.
-#[derive(Drop)]
+#[derive(Clone, Copy)]
 pub enum Jumped {
     Dc,
     DcCoda,
@@ -12,7 +12,7 @@ pub enum Jumped {
 }
 
 // A sign, with the numbers that it carries.
-#[derive(Drop)]
+#[derive(Clone, Copy)]
 pub enum Sign {
     // (b,k,l): l beats from beat k on.
     Block(u32, u32),
