@@ -1,13 +1,12 @@
 -- The listing of a score plays the score: run from fresh with room it halts after exactly the score's steps and has played exactly its list; with a smaller allowance it is unfinished after exactly that many steps.
 -- Assumes nothing.
 use mathlib.Core.Path.{◌≡◌, refl, sym, ap, ap₂, subst, ◌∙◌}
-use mathlib.Core.List.{List, [], ◌∷◌, append-nil, map}
+use mathlib.Core.List.{List, [], ◌∷◌, append-nil}
 use Prim.Native.Nat.{ℕ, ◌+◌, ◌-◌, ◌≤◌, ◌<◌}
 use native.Mathlib.Omega.{arith}
 use lib.ListN.{length, replicate, length-replicate, length-map}
 use Rattle.refusals.specs.Limits.{Limits}
-use Rattle.played.specs.declared.Played.{Played}
-use Rattle.played.specs.Played.{entries, total}
+use Rattle.played.specs.Played.{total}
 use Rattle.score.specs.Trees.{Leaf, block}
 use Rattle.score.specs.Shapes.{Score, score}
 use Rattle.score.specs.Played.{block_of, beats, plays, played}
