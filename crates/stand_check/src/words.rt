@@ -1,8 +1,12 @@
 // Instruction words, and what is printed of an answer.
+ghost use Rattle.std.specs.Prelude.{◌≡◌};
+
 use instructions::{Instruction, Operation, pack};
 use machine::{Position, fresh};
 use played::Played;
+use refusals::Refusal;
 use stand::{Answer, Report, Stop, run_chunk};
+use std::io;
 
 fn word(operation: Operation, loop_number: u8, label_number: u32) -> u64 {
     pack(Instruction {
@@ -36,66 +40,87 @@ pub(crate) fn njmp(l: u8, t: u16, label: u32) -> u64 {
     word(Operation::JumpUnless(t), l, label)
 }
 
-pub(crate) fn say(text: &[u8]) {
-    io::write_all(1, text);
+pub(crate) fn say(rt: &impl Print, text: &str) -> io::Result<()> {
+    print!(rt; "{text}")
 }
 
 // A space and a number.
-pub(crate) fn number(n: u64) {
-    say(b" ");
-    io::print_decimal(1, n);
+pub(crate) fn number(rt: &impl Print, n: u64) -> io::Result<()> {
+    print!(rt; " {n}")
 }
 
-fn reason(stop: Stop) {
+fn reason(rt: &impl Print, stop: Stop) -> io::Result<()> {
     match stop {
-        Stop::Halted => say(b"halted"),
-        Stop::AllowanceUsed => say(b"used"),
-        Stop::BufferFull => say(b"full"),
+        Stop::Halted => say(rt, "halted"),
+        Stop::AllowanceUsed => say(rt, "used"),
+        Stop::BufferFull => say(rt, "full"),
+    }
+}
+
+// The same refusal: its number and its place each take one.
+fn same(why: &Refusal) -> Refusal
+    ensures { result ≡ why.now }
+{
+    match why {
+        Refusal::TextTooLong => Refusal::TextTooLong,
+        Refusal::Unreadable(byte) => Refusal::Unreadable(*byte),
+        Refusal::TooManySigns => Refusal::TooManySigns,
+        Refusal::NoScore(sign) => Refusal::NoScore(*sign),
+        Refusal::BadNumber(sign) => Refusal::BadNumber(*sign),
+        Refusal::TooDeep(sign) => Refusal::TooDeep(*sign),
+        Refusal::TooManyLoops => Refusal::TooManyLoops,
+        Refusal::TooManyPlayed => Refusal::TooManyPlayed,
+        Refusal::NoRoom(needed) => Refusal::NoRoom(*needed),
+        Refusal::PastTotal(total) => Refusal::PastTotal(*total),
+        Refusal::BadListing(instruction) => Refusal::BadListing(*instruction),
+        Refusal::BadPosition => Refusal::BadPosition,
+        Refusal::Unwritable(sign) => Refusal::Unwritable(*sign),
     }
 }
 
 // The refusal's number and place; or why the run stopped, its steps and entries, and the next place and the beat.
-pub(crate) fn show(answer: Answer) {
+pub(crate) fn show(rt: &impl Print, answer: Answer) -> io::Result<()> {
     let report = answer.report;
     let position = answer.position;
     match report {
         Report::Refused(why) => {
-            say(b"refused");
-            number(refusals::number(why) as u64);
-            number(refusals::place(why));
+            say(rt, "refused")?;
+            number(rt, refusals::number(same(&why)) as u64)?;
+            number(rt, refusals::place(why))?;
         }
         Report::Stopped(stop, steps, entries) => {
-            reason(stop);
-            number(steps as u64);
-            number(entries as u64);
-            number(position.next as u64);
-            number(position.beat);
+            reason(rt, stop)?;
+            number(rt, steps as u64)?;
+            number(rt, entries as u64)?;
+            number(rt, position.next as u64)?;
+            number(rt, position.beat)?;
         }
     }
-    say(b"\n");
+    println!(rt)
 }
 
 // What a run of the listing answers from the position, with 99 steps allowed.
-pub(crate) fn from(name: &[u8], listing: &[u64], position: Position) {
-    say(name);
-    say(b": ");
+pub(crate) fn from(
+    rt: &impl Print,
+    name: &str,
+    listing: &[u64],
+    position: Position,
+) -> io::Result<()> {
+    print!(rt; "{name}: ")?;
     let chunk = run_chunk(listing, position, 99);
     let answer = chunk.answer;
-    show(answer);
+    show(rt, answer)
 }
 
 // From the start.
-pub(crate) fn test(name: &[u8], listing: &[u64]) {
-    from(name, listing, fresh());
+pub(crate) fn test(rt: &impl Print, name: &str, listing: &[u64]) -> io::Result<()> {
+    from(rt, name, listing, fresh())
 }
 
 // One entry, as (b,k,l,z).
-pub(crate) fn entry(e: Played) {
-    say(b" (b,");
-    io::print_decimal(1, e.k as u64);
-    say(b",");
-    io::print_decimal(1, e.l as u64);
-    say(b",");
-    io::print_decimal(1, e.z);
-    say(b")");
+pub(crate) fn entry(rt: &impl Print, e: Played) -> io::Result<()> {
+    let k = e.k;
+    let l = e.l;
+    let z = e.z;
+    print!(rt; " (b,{k},{l},{z})")
 }
