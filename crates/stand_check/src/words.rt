@@ -1,10 +1,7 @@
 // Instruction words, and what is printed of an answer.
-ghost use Rattle.std.specs.Prelude.{◌≡◌};
-
 use instructions::{Instruction, Operation, pack};
 use machine::{Position, fresh};
 use played::Played;
-use refusals::Refusal;
 use stand::{Answer, Report, Stop, run_chunk};
 use std::io;
 
@@ -57,27 +54,6 @@ fn reason(rt: &impl Print, stop: Stop) -> io::Result<()> {
     }
 }
 
-// The same refusal: its number and its place each take one.
-fn same(why: &Refusal) -> Refusal
-    ensures { result ≡ why.now }
-{
-    match why {
-        Refusal::TextTooLong => Refusal::TextTooLong,
-        Refusal::Unreadable(byte) => Refusal::Unreadable(*byte),
-        Refusal::TooManySigns => Refusal::TooManySigns,
-        Refusal::NoScore(sign) => Refusal::NoScore(*sign),
-        Refusal::BadNumber(sign) => Refusal::BadNumber(*sign),
-        Refusal::TooDeep(sign) => Refusal::TooDeep(*sign),
-        Refusal::TooManyLoops => Refusal::TooManyLoops,
-        Refusal::TooManyPlayed => Refusal::TooManyPlayed,
-        Refusal::NoRoom(needed) => Refusal::NoRoom(*needed),
-        Refusal::PastTotal(total) => Refusal::PastTotal(*total),
-        Refusal::BadListing(instruction) => Refusal::BadListing(*instruction),
-        Refusal::BadPosition => Refusal::BadPosition,
-        Refusal::Unwritable(sign) => Refusal::Unwritable(*sign),
-    }
-}
-
 // The refusal's number and place; or why the run stopped, its steps and entries, and the next place and the beat.
 pub(crate) fn show(rt: &impl Print, answer: Answer) -> io::Result<()> {
     let report = answer.report;
@@ -85,7 +61,7 @@ pub(crate) fn show(rt: &impl Print, answer: Answer) -> io::Result<()> {
     match report {
         Report::Refused(why) => {
             say(rt, "refused")?;
-            number(rt, refusals::number(same(&why)) as u64)?;
+            number(rt, refusals::number(why) as u64)?;
             number(rt, refusals::place(why))?;
         }
         Report::Stopped(stop, steps, entries) => {
