@@ -1,4 +1,7 @@
 // Signs written as text, into a lent buffer.
+
+#![tactic(auto)]
+
 mod put;
 
 ghost use Rattle.std.specs.Prelude.{◌≡◌, ◌≤◌, ◌<◌, ◌^◌, T, length};
