@@ -6,7 +6,7 @@ use crate::stretch::{Begun, Stretch};
 use crate::{kind, stretch};
 
 // What was read, or the place where no score goes on.
-#[derive(Drop)]
+#[derive(Clone, Copy)]
 pub enum Ran {
     Ended(Stretch),
     Halted(usize),

@@ -6,7 +6,7 @@ use crate::tally;
 use crate::tally::Tally;
 
 // A run of items: the place behind it; 0 for no item, 2 where its last item is a group, else 1; and one more than the place of the first `|:` that is too deep, or 0.
-#[derive(Drop)]
+#[derive(Clone, Copy)]
 pub struct Stretch {
     pub at: usize,
     pub last: u8,
@@ -15,7 +15,7 @@ pub struct Stretch {
 }
 
 // A group up to behind a `[`: the endings before it, whether its `|:` lacks, and the tallies of its run and of those endings.
-#[derive(Drop)]
+#[derive(Clone, Copy)]
 pub struct Begun {
     pub at: usize,
     pub deep: usize,

@@ -15,7 +15,7 @@ pub const NOWHERE: u8 = 255;
 const WAITS: u8 = 8;
 
 // What was read of a score: the place behind it, the number of the part that follows (of the shape, once it is whole), the first `|:` that is too deep as in a stretch, the tally of all runs, and that of the run that is replayed.
-#[derive(Drop)]
+#[derive(Clone, Copy)]
 pub struct Sofar {
     pub at: usize,
     pub part: u8,
@@ -25,7 +25,7 @@ pub struct Sofar {
 }
 
 // A whole score, or the place where no score goes on.
-#[derive(Drop)]
+#[derive(Clone, Copy)]
 pub enum Whole {
     Read(Sofar),
     Halted(usize),

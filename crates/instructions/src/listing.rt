@@ -13,14 +13,14 @@ use refusals::{INSTRUCTIONS, LABELS, LOOPS, NUMBER, Refusal, TIMES};
 const NONE: usize = 4294967296;
 
 // The answer of test 11.
-#[derive(Drop)]
+#[derive(Clone, Copy)]
 pub enum Tested {
     Good,
     Refused(Refusal),
 }
 
 // The answer, and beside it the places of each loop's first mark and first `rep`; the listing's length where it has none.
-#[derive(Drop)]
+#[derive(Clone, Copy)]
 pub struct Checked {
     pub tested: Tested,
     pub marks: [usize; LOOPS],

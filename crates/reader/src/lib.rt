@@ -10,14 +10,14 @@ ghost use Rattle.reader.specs.Reader.{behind};
 use signs::Next;
 
 // A text and a place in it.
-#[derive(Drop)]
+#[derive(Clone, Copy)]
 pub struct Reader<'a> {
     pub text: &'a [u8],
     pub at: usize,
 }
 
 // What a reader hands out, and where it then stands.
-#[derive(Drop)]
+#[derive(Clone, Copy)]
 pub struct Handed {
     pub next: Next,
     pub at: usize,

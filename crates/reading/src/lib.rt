@@ -12,7 +12,7 @@ use refusals::{Refusal, SIGNS};
 use signs::Next;
 
 // How many signs are read, or a refusal.
-#[derive(Drop)]
+#[derive(Clone, Copy)]
 pub enum Reading {
     Signs(usize),
     Refused(Refusal),

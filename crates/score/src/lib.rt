@@ -3,7 +3,7 @@
 #![tactic(auto)]
 
 // The seven shapes of a score.
-#[derive(Drop)]
+#[derive(Clone, Copy)]
 pub enum Shape {
     Straight,
     DaCapo,
@@ -15,14 +15,14 @@ pub enum Shape {
 }
 
 // The time sign of a score, if it has one: m beats to the bar, each a 1/n note.
-#[derive(Drop)]
+#[derive(Clone, Copy)]
 pub enum Time {
     Untimed,
     Timed(u32, u32),
 }
 
 // What is told of a score that is taken.
-#[derive(Drop)]
+#[derive(Clone, Copy)]
 pub struct Figures {
     pub shape: Shape,
     pub time: Time,
@@ -40,7 +40,7 @@ pub struct Figures {
 }
 
 // What is answered for a list of sign words: a score with its figures, or a refusal. Signs are named by their number, from 0.
-#[derive(Drop)]
+#[derive(Clone, Copy)]
 pub enum Examined {
     Taken(Figures),
     TooManySigns,

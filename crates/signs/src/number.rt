@@ -5,14 +5,14 @@ ghost use Rattle.signs.specs.Numbers.{digit, number_at, pair_at};
 use crate::text::{past, peek};
 
 // A number and the place after it, or nothing that is one.
-#[derive(Drop)]
+#[derive(Clone, Copy)]
 pub enum Number {
     Read(u32, usize),
     Nothing,
 }
 
 // Two numbers and the place after their bracket, or nothing that is that.
-#[derive(Drop)]
+#[derive(Clone, Copy)]
 pub enum Pair {
     Both(u32, u32, usize),
     Nothing,

@@ -8,7 +8,7 @@ use crate::text::peek;
 use crate::word::{Unpacked, plain};
 
 // What stands at a place: a sign and the place after it, or none.
-#[derive(Drop)]
+#[derive(Clone, Copy)]
 pub enum Standing {
     Stands(Sign, usize),
     Nothing,

@@ -6,7 +6,7 @@ ghost use Rattle.signs.specs.Words.{packed as packed_word};
 use crate::sign::{Jumped, Sign};
 
 // The sign that a word packs, or nothing.
-#[derive(Drop)]
+#[derive(Clone, Copy)]
 pub enum Unpacked {
     Packed(Sign),
     Nothing,

@@ -24,7 +24,7 @@ pub enum Stop {
 }
 
 // What a run reports.
-#[derive(Drop)]
+#[derive(Clone, Copy)]
 pub enum Report {
     // The listing or the position is refused.
     Refused(Refusal),
@@ -33,7 +33,7 @@ pub enum Report {
 }
 
 // The report, and beside it the new position; all zero where the run is refused.
-#[derive(Drop)]
+#[derive(Clone, Copy)]
 pub struct Answer {
     pub report: Report,
     pub position: Position,

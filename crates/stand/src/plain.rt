@@ -13,14 +13,14 @@ use played::Played;
 pub const CHUNK: usize = 64;
 
 // A run's answer, and the entries that it wrote; those behind them are all zero.
-#[derive(Drop)]
+#[derive(Clone, Copy)]
 pub struct Chunk {
     pub answer: Answer,
     pub entries: [Played; CHUNK],
 }
 
 // A run's answer, and the entry that it wrote; all zero if it wrote none.
-#[derive(Drop)]
+#[derive(Clone, Copy)]
 pub struct Next {
     pub answer: Answer,
     pub entry: Played,

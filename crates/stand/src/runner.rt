@@ -16,7 +16,7 @@ use played::Played;
 use refusals::{LOOPS, Refusal};
 
 // Whether tests 11 and 12 refuse, the answer if they do, and the place of each loop's mark.
-#[derive(Drop)]
+#[derive(Clone, Copy)]
 pub(crate) struct Opened {
     pub refused: bool,
     pub answer: Answer,

@@ -1,40 +1,37 @@
 // Sign text on standard input; the same signs as the writer writes them on standard output, or the refusal.
-use libc::{STDIN_FILENO, STDOUT_FILENO};
+
+#![tactic(auto)]
+
 use reading::Reading;
 use refusals::{BYTES, Refusal, SIGNS};
+use std::io::{self, Read};
 use writing::Written;
 
 // Prints a refusal's number and place.
-fn refuse(r: Refusal) {
-    io::write_all(STDOUT_FILENO, b"refused ");
-    io::print_decimal(STDOUT_FILENO, refusals::number(r) as u64);
-    io::write_all(STDOUT_FILENO, b" ");
-    io::print_decimal(STDOUT_FILENO, refusals::place(r));
-    io::write_all(STDOUT_FILENO, b"\n");
+fn refuse(rt: &impl Print, r: Refusal) -> io::Result<()> {
+    println!(rt; "refused {} {}", refusals::number(r), refusals::place(r))
 }
 
 // Prints the signs of the words, or why they can't be written.
-fn write(words: &[u64]) {
+fn write(rt: &impl Print, words: &[u64]) -> io::Result<()> {
     let mut out = [0u8; BYTES];
     match writing::write_signs(words, &mut out) {
-        Written::Bytes(n) => {
-            io::write_all(STDOUT_FILENO, &out[..n]);
-        }
-        Written::Refused(r) => refuse(r),
+        Written::Bytes(n) => rt.write_all(&out[..n]),
+        Written::Refused(r) => refuse(rt, r),
     }
 }
 
 // Prints the signs of a text, or why they can't be read.
-fn tidy(text: &[u8]) {
+fn tidy(rt: &impl Print, text: &[u8]) -> io::Result<()> {
     let mut words = [0u64; SIGNS];
     match reading::read_signs(text, &mut words) {
-        Reading::Signs(n) => write(&words[..n]),
-        Reading::Refused(r) => refuse(r),
+        Reading::Signs(n) => write(rt, &words[..n]),
+        Reading::Refused(r) => refuse(rt, r),
     }
 }
 
-fn main() {
-    let mut text = [0u8; BYTES + 1];
-    let n = io::read_full(STDIN_FILENO, &mut text);
-    tidy(&text[..n]);
+fn main(rt: HostRuntime) -> io::Result<()> {
+    let mut text = Vec::new(rt.alloc());
+    rt.stdin().take(BYTES as u64 + 1).read_to_end(&mut text)?;
+    tidy(&rt, &text)
 }

@@ -12,7 +12,7 @@ use lib.ListN.{length, get_or, drop, length-append, get_or-append}
 use lib.Seq.{drop_at, get_or_at}
 use Rattle.signs.specs.declared.number.Number.TheVariants.{Read, Nothing}
 use Rattle.signs.specs.declared.number.Pair.TheVariants.{Both}
-use Rattle.signs.specs.Text.{space, past}
+use Rattle.signs.specs.Text.{past}
 use Rattle.signs.specs.Numbers.{digit, leading, decimal, number_of, number_at, pair_at}
 use Rattle.signs.proofs.Gaps.{past_here}
 use Rattle.signs.proofs.Digits.{digit_range, number_by, pair_closed}

@@ -14,7 +14,7 @@ use Rattle.refusals.specs.Limits.{document01}
 use Rattle.signs.specs.declared.sign.Sign.{Sign}
 use Rattle.signs.specs.Text.{front, separator, past}
 use Rattle.signs.specs.Words.{word_of, sign_of}
-use Rattle.signs.specs.Next.{Coming, sign, nothing, coming}
+use Rattle.signs.specs.Next.{sign, nothing, coming}
 use Rattle.signs.proofs.Gaps.{clash, past_more, past_here}
 use Rattle.signs.proofs.Packing.{word_again}
 use Rattle.signs.proofs.Coming.{coming_end}

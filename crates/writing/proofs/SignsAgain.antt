@@ -21,7 +21,7 @@ use Rattle.signs.specs.Text.{separator, past, starts}
 use Rattle.signs.specs.Words.{parts_of}
 use Rattle.signs.specs.Numbers.{pair_at}
 use Rattle.signs.specs.Spellings.{Meaning, alone, numbered, Spelling, spells, spellings, spelling, letters_of, letter_of, made, finished_as, longest}
-use Rattle.signs.specs.Next.{Coming, sign, coming}
+use Rattle.signs.specs.Next.{sign, coming}
 use Rattle.signs.proofs.Gaps.{past_here, there}
 use Rattle.signs.proofs.Table.{upto, below, both_left, both_right}
 use Rattle.signs.proofs.Longest.{or_else, first, longest_first}

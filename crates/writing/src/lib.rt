@@ -1,4 +1,7 @@
 // Signs written as text, into a lent buffer.
+
+#![tactic(auto)]
+
 mod put;
 
 ghost use Rattle.std.specs.Prelude.{◌≡◌, ◌≤◌, ◌<◌, ◌^◌, T, length};
@@ -13,7 +16,7 @@ use refusals::{NUMBER, Refusal};
 use signs::{Sign, Unpacked};
 
 // How many bytes are written, or a refusal.
-#[derive(Drop)]
+#[derive(Clone, Copy)]
 pub enum Written {
     Bytes(usize),
     Refused(Refusal),
