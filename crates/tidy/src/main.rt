@@ -2,9 +2,11 @@
 
 #![tactic(auto)]
 
+ghost use Rattle.std.specs.Prelude.{◌≤◌, length};
+
 use reading::Reading;
 use refusals::{BYTES, Refusal, SIGNS};
-use std::io::{self, Read};
+use std::io::{self, ErrorKind, Read};
 use writing::Written;
 
 // Prints a refusal's number and place.
@@ -30,8 +32,30 @@ fn tidy(rt: &impl Print, text: &[u8]) -> io::Result<()> {
     }
 }
 
+// Fills the buffer from the input, and says how many bytes came; a read that fails is the end of the input.
+fn fill(input: &mut impl Read, text: &mut [u8]) -> usize
+    ensures { result ≤ length text.new }
+{
+    let mut n = 0;
+    for _ in 0..u64::MAX {
+        if n >= text.len() {
+            break;
+        }
+        match input.read(&mut text[n..]) {
+            Ok(0) => break,
+            Ok(got) => n += got,
+            Err(e) => {
+                if e.kind() != ErrorKind::Interrupted {
+                    break;
+                }
+            }
+        }
+    }
+    n
+}
+
 fn main(rt: HostRuntime) -> io::Result<()> {
-    let mut text = Vec::new(rt.alloc());
-    rt.stdin().take(BYTES as u64 + 1).read_to_end(&mut text)?;
-    tidy(&rt, &text)
+    let mut text = [0u8; BYTES + 1];
+    let n = fill(&mut rt.stdin(), &mut text);
+    tidy(&rt, &text[..n])
 }
