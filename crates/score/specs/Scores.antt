@@ -15,11 +15,11 @@ use Rattle.score.specs.Steps.{steps}
 -- what is said of a score: its played list and steps, or the place of the refusal
 pub data Said : Type 0 where
   heard : List Played → ℕ → Said
-  refused_at_lem : ℕ → Said
+  refused_at_sign : ℕ → Said
 
 abbrev pub say : Answer → Said
 say (reading t) = heard (played t) (steps t)
-say (refused i) = refused_at_lem i
+say (refused i) = refused_at_sign i
 
 pub record Row : Type 0 where
   pub signs : List Sign
@@ -31,7 +31,7 @@ plays s l n = record { signs = s; said = heard (entries 0 (map block_of l)) n }
 
 -- a row that is refused at a place
 abbrev refuses : List Sign → ℕ → Row
-refuses s i = record { signs = s; said = refused_at_lem i }
+refuses s i = record { signs = s; said = refused_at_sign i }
 
 abbrev a : Sign
 a = Block 0 4
