@@ -150,9 +150,6 @@ module _ (l : Limits) (text out : List ℕ) where
   unfolding buffer_of
   answers r e = (e, (ap (said_reading l) e, ap (buffer_by (map word_of (signs_of text)) out) e))
 
-  pub too_long : l.bytes < length text → Answers (Refused TextTooLong)
-  too_long h = answers (Refused TextTooLong) (sym (long_text l text (length out) h))
-
   pub by_count : length text ≤ l.bytes → (k r : Reading) → counted text ≡ k → room_for l (length out) k ≡ r → Answers r
   unfolding reading_of
   by_count h k r e f = answers r (rw (le-ltb l.bytes (length text) h) (sym (ap (room_for l (length out)) e ∙ f)))

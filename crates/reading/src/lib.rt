@@ -62,6 +62,7 @@ fn copy(words: &[u64], n: usize, out: &mut [u64])
 }
 
 // Reads all signs of a text into a buffer, which a refusal leaves as it was.
+#[tactic(auto, using(std::proofs::lemmas::Bool::Decides::nat_tests), unfolding(crate::specs::Reading::reading_of, crate::specs::Reading::buffer_of))]
 pub fn read_signs(text: &[u8], out: &mut [u64]) -> Reading
     ensures answer { result ≡ reading_of document01 text.now (length out.old) }
     ensures numbers { said_reading document01 result ≡ reading_said document01 text.now (length out.old) }
