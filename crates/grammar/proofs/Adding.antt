@@ -7,31 +7,34 @@ use native.Mathlib.Omega.{arith}
 use lib.ListN.{length, length-append}
 use Rattle.signs.specs.declared.sign.Sign.{Sign}
 use Rattle.signs.specs.declared.sign.Sign.TheVariants.{RightRepeat, OpenEnding, CloseEnding}
-use Rattle.score.specs.Trees.{Leaf, block, Left, written, lacking, Run, nil, ◌▸◌, Item, leaf, repeat, group, Ends, no_more, ◌then◌}
+use Rattle.score.specs.Trees.{Left as LeftOf}
+use Rattle.score.specs.Trees.{Leaf, block, written, lacking, Run, nil, ◌▸◌, Item, leaf, repeat, group, Ends, no_more, ◌then◌}
 use Rattle.score.specs.Spelling.{left_signs, run_signs, item_signs, ends_signs}
 use Rattle.score.specs.Played.{run_plays, item_plays, ends_play, beats}
-use Rattle.score.specs.Steps.{count, run_steps, item_steps, ends_steps}
+use Rattle.score.specs.Steps.{count}
 use Rattle.score.specs.Sums.{total, each}
 use Rattle.score.specs.Depth.{inner, left_around, run_around, item_around, ends_around}
-use Rattle.score.specs.Sizes.{lacks, run_loops, item_loops, ends_loops, run_implied, item_implied, ends_implied, run_labels, item_labels, ends_labels}
+use Rattle.score.specs.Sizes.{lacks}
 use Rattle.score.proofs.Calls.{total-append}
 use Rattle.grammar.specs.declared.tally.Tally.{Tally}
 use Rattle.grammar.specs.Tallies.{capped, tally, nothing, joined, repeated, grouped}
-use Rattle.grammar.specs.Stretches.{first_of, open_at, stretch, empty_stretch, block_stretch, followed, closed_as, beginning, begun_as, went_on, finished_as, ends_total, run_tally, ends_tally, deep_of, summed, open_signs, open_around, begun}
+use Rattle.grammar.specs.declared.stretch.Last.{Last}
+use Rattle.grammar.specs.declared.stretch.Left.{Left}
+use Rattle.grammar.specs.declared.stretch.Left.TheVariants.{Written, Lacking}
+use Rattle.std.specs.Prelude.{Option, None}
+use Rattle.std.specs.Option.{option_or}
+use Rattle.grammar.specs.Stretches.{too_deep, lack_count, stretch, empty_stretch, block_stretch, followed, closed_as, beginning, begun_as, went_on, finished_as, ends_total, run_tally, ends_tally, deep_of, summed, open_signs, open_around, begun}
 use Rattle.grammar.proofs.Capped.{add_left, add_right, times_left, times_right}
-use Rattle.grammar.proofs.Deep.{first_none, deep_other, deep_left, deep_append, deep_one, deep_two, deep_run, left_around_lem, run_around_lem, ends_around_lem}
+use Rattle.grammar.proofs.Deep.{deep_other, deep_left, deep_append, deep_one, deep_two, deep_run, left_around_lem, run_around_lem, ends_around_lem}
 
 pub same_tally : {a b c d e f a' b' c' d' e' f' : ℕ} → a ≡ a' → b ≡ b' → c ≡ c' → d ≡ d' → e ≡ e' → f ≡ f' → tally a b c d e f ≡ tally a' b' c' d' e' f'
 same_tally p q r s t u = cc
 
-same_stretch : {a l d a' l' d' : ℕ} {t t' : Tally} → a ≡ a' → l ≡ l' → d ≡ d' → t ≡ t' → stretch a l d t ≡ stretch a' l' d' t'
+same_stretch : {a a' : ℕ} {l l' : Last} {d d' : Option ℕ} {t t' : Tally} → a ≡ a' → l ≡ l' → d ≡ d' → t ≡ t' → stretch a l d t ≡ stretch a' l' d' t'
 same_stretch p q r s = cc
 
-same_begun : {a d n l a' d' n' l' : ℕ} {m e m' e' : Tally} → a ≡ a' → d ≡ d' → n ≡ n' → l ≡ l' → m ≡ m' → e ≡ e' → beginning a d n l m e ≡ beginning a' d' n' l' m' e'
+same_begun : {a n l a' n' l' : ℕ} {d d' : Option ℕ} {m e m' e' : Tally} → a ≡ a' → d ≡ d' → n ≡ n' → l ≡ l' → m ≡ m' → e ≡ e' → beginning a d n l m e ≡ beginning a' d' n' l' m' e'
 same_begun p q r s t u = cc
-
-pub sum : (a b : ℕ) → capped (capped a + capped b) ≡ capped (a + b)
-sum a b = add_left a (capped b) ∙ add_right a b
 
 -- the weight of a group
 ends_weight : (w : Leaf → ℕ) (es : Ends) (m : List Leaf) → total w (ends_play m es) ≡ count es * total w m + ends_total w es
@@ -39,7 +42,7 @@ ends_weight w no_more m = omega arith
 ends_weight w (es then e) m =
     let h = ends_weight w es m in rw (total-append w (ends_play m es) (m ++ run_plays e), total-append w m (run_plays e)) (omega arith)
 
-group_weight : (w : Leaf → ℕ) (o : Left) (m : Run) (es : Ends) (e : Run)
+group_weight : (w : Leaf → ℕ) (o : LeftOf) (m : Run) (es : Ends) (e : Run)
     → total w (item_plays (group o m es e)) ≡ suc (count es) * total w (run_plays m) + (ends_total w es + total w (run_plays e))
 group_weight w o m es e =
     let h = ends_weight w es (run_plays m) in
@@ -47,38 +50,32 @@ group_weight w o m es e =
 
 -- tallies
 follow_tally : (r : Run) (i : Item) → joined (run_tally r) (run_tally (nil ▸ i)) ≡ run_tally (r ▸ i)
-unfolding run_tally
+unfolding run_tally capped
 follow_tally r i =
     same_tally
-    (sum (run_loops r) (0 + item_loops i) ∙ ap capped (omega arith))
-    (sum (run_implied r) (0 + item_implied i) ∙ ap capped (omega arith))
-    (sum (run_labels r) (0 + item_labels i) ∙ ap capped (omega arith))
-    (sum (total each (run_plays r)) (total each (item_plays i)) ∙ ap capped (sym (total-append each (run_plays r) (item_plays i))))
-    (sum (total beats (run_plays r)) (total beats (item_plays i)) ∙ ap capped (sym (total-append beats (run_plays r) (item_plays i))))
-    (sum (run_steps r) (0 + item_steps i) ∙ ap capped (omega arith))
+    (omega arith)
+    (omega arith)
+    (omega arith)
+    (omega (arith, total-append each (run_plays r) (item_plays i)))
+    (omega (arith, total-append beats (run_plays r) (item_plays i)))
+    (omega arith)
 
 ends_tally_lem : (es : Ends) (e : Run) → joined (ends_tally es) (run_tally e) ≡ ends_tally (es then e)
-unfolding run_tally ends_tally
-ends_tally_lem es e =
-    same_tally (sum (ends_loops es) (run_loops e)) (sum (ends_implied es) (run_implied e)) (sum (ends_labels es) (run_labels e)) (sum (ends_total each es) (total each (run_plays e)))
-    (sum (ends_total beats es) (total beats (run_plays e)))
-    (sum (ends_steps es) (run_steps e))
+unfolding run_tally ends_tally capped
+ends_tally_lem es e = same_tally (omega arith) (omega arith) (omega arith) (omega arith) (omega arith) (omega arith)
 
-repeat_tally : (o : Left) (r : Run) → repeated (lacks o) (run_tally r) ≡ run_tally (nil ▸ repeat o r)
-unfolding run_tally
+repeat_tally : (o : LeftOf) (r : Run) → repeated (lacks o) (run_tally r) ≡ run_tally (nil ▸ repeat o r)
+unfolding run_tally capped
 repeat_tally o r =
     same_tally
-    (add_right 1 (run_loops r) ∙ ap capped (omega arith))
-    (add_right (lacks o) (run_implied r) ∙ ap capped (omega arith))
-    (ap capped (omega arith))
-    (times_right 2 (total each (run_plays r)) ∙ ap capped (rw (total-append each (run_plays r) (run_plays r)) (omega arith)))
-    (times_right 2 (total beats (run_plays r)) ∙ ap capped (rw (total-append beats (run_plays r) (run_plays r)) (omega arith)))
-    (add_right 3 (2 * capped (run_steps r)) ∙ add_3 (run_steps r))
-  where
-    add_3 : (n : ℕ) → capped (3 + 2 * capped n) ≡ capped (0 + (3 + 2 * n))
-    add_3 n = sym (add_right 3 (2 * capped n)) ∙ rw (times_right 2 n) (add_right 3 (2 * n) ∙ ap capped (omega arith))
+    (omega arith)
+    (omega arith)
+    (omega arith)
+    (omega (arith, total-append each (run_plays r) (run_plays r)))
+    (omega (arith, total-append beats (run_plays r) (run_plays r)))
+    (omega arith)
 
-group_tally : (o : Left) (m : Run) (es : Ends) (e : Run)
+group_tally : (o : LeftOf) (m : Run) (es : Ends) (e : Run)
     → grouped (lacks o) (capped (capped (count es) + 1)) (run_tally m) (joined (ends_tally es) (run_tally e)) ≡ run_tally (nil ▸ group o m es e)
 unfolding run_tally ends_tally
 group_tally o m es e =
@@ -107,15 +104,20 @@ follow_is d p r i =
     (sym (deep_append (run_signs r) (item_signs i) (run_around d r) (item_around d i) p (run_around_lem d r)))
     (follow_tally r i)
 
--- what stands before a run that a `:|` closes or a `[` follows
-abbrev pub left_open : ℕ → ℕ → Left → ℕ
-left_open d p written = open_at d (p + 1)
-left_open d p lacking = 0
+-- the `|:` of what stands at a place
+abbrev pub left_at : ℕ → ℕ → LeftOf → Left
+left_at d p written = Written d p
+left_at d p lacking = Lacking
 
-deep_before : (d p : ℕ) (o : Left) (s : List Sign) (ds : List ℕ)
-    → deep_of p (left_signs o ++ s) (left_around d o ++ ds) ≡ first_of (left_open d p o) (deep_of (p + length (left_signs o)) s ds)
+lack_is : (d p : ℕ) (o : LeftOf) → lack_count (left_at d p o) ≡ lacks o
+lack_is d p written = refl
+lack_is d p lacking = refl
+
+deep_before : (d p : ℕ) (o : LeftOf) (s : List Sign) (ds : List ℕ)
+    → deep_of p (left_signs o ++ s) (left_around d o ++ ds) ≡ option_or (too_deep (left_at d p o)) (deep_of (p + length (left_signs o)) s ds)
+unfolding too_deep
 deep_before d p written s ds = deep_left p d s ds
-deep_before d p lacking s ds = rw (first_none (deep_of (p + 0) s ds)) (ap (λ q. deep_of q s ds) (omega arith))
+deep_before d p lacking s ds = ap (λ q. deep_of q s ds) (omega arith)
 
 no_ends : nothing ≡ ends_tally no_more
 unfolding ends_tally capped
@@ -125,30 +127,30 @@ pub none_capped : 0 ≡ capped 0
 unfolding capped
 none_capped = refl
 
-module _ (d p : ℕ) (o : Left) where
+module _ (d p : ℕ) (o : LeftOf) where
   abbrev pub behind : ℕ
   behind = p + length (left_signs o)
 
   abbrev n : ℕ
   n = inner d o
 
-  pub close_is : (r : Run) → closed_as ((summed n behind r).at + 1) (left_open d p o) (lacks o) (summed n behind r) ≡ summed d p (nil ▸ repeat o r)
+  pub close_is : (r : Run) → closed_as (left_at d p o) (summed n behind r) ≡ summed d p (nil ▸ repeat o r)
   close_is r =
       same_stretch
       (rw (length-append (left_signs o) (run_signs r ++ (RightRepeat ∷ [])), length-append (run_signs r) (RightRepeat ∷ [])) (omega arith))
       refl
       (sym
       (deep_before d p o (run_signs r ++ (RightRepeat ∷ [])) (run_around n r ++ (d ∷ []))
-      ∙ ap (first_of (left_open d p o)) (deep_run n behind r (RightRepeat ∷ []) (d ∷ []) (λ q. deep_one q d RightRepeat refl))))
-      (repeat_tally o r)
+      ∙ ap (option_or (too_deep (left_at d p o))) (deep_run n behind r (RightRepeat ∷ []) (d ∷ []) (λ q. deep_one q d RightRepeat refl))))
+      (ap (λ l. repeated l (run_tally r)) (lack_is d p o) ∙ repeat_tally o r)
 
-  pub begin_is : (r : Run) → begun_as ((summed n behind r).at + 1) (left_open d p o) (lacks o) (summed n behind r) ≡ begun d p o r no_more
+  pub begin_is : (r : Run) → begun_as (left_at d p o) (summed n behind r) ≡ begun d p o r no_more
   begin_is r =
       same_begun
       (rw (append-nil (run_signs r), length-append (left_signs o) (run_signs r)) (omega arith))
       (rw (append-nil (run_signs r), append-nil (run_around n r)) (sym (deep_before d p o (run_signs r) (run_around n r))))
       none_capped
-      refl
+      (lack_is d p o)
       refl
       no_ends
 
@@ -169,13 +171,13 @@ module _ (d p : ℕ) (o : Left) where
     split_around v = simp append_assoc
 
     -- one more ending, and what follows it
-    deep_ending : (s : List Sign) (ds : List ℕ) → ((q : ℕ) → deep_of q s ds ≡ 0)
-        → deep_of p (u ++ (OpenEnding ∷ (run_signs e ++ s))) (du ++ (n ∷ (run_around n e ++ ds))) ≡ first_of (deep_of p u du) (deep_of (p + length u + 1) (run_signs e) (run_around n e))
+    deep_ending : (s : List Sign) (ds : List ℕ) → ((q : ℕ) → deep_of q s ds ≡ None)
+        → deep_of p (u ++ (OpenEnding ∷ (run_signs e ++ s))) (du ++ (n ∷ (run_around n e ++ ds))) ≡ option_or (deep_of p u du) (deep_of (p + length u + 1) (run_signs e) (run_around n e))
     deep_ending s ds h =
         deep_append u (OpenEnding ∷ (run_signs e ++ s)) du (n ∷ (run_around n e ++ ds)) p one_a_sign
-        ∙ ap (first_of (deep_of p u du)) (deep_other (p + length u) n OpenEnding (run_signs e ++ s) (run_around n e ++ ds) refl ∙ deep_run n (p + length u + 1) e s ds h)
+        ∙ ap (option_or (deep_of p u du)) (deep_other (p + length u) n OpenEnding (run_signs e ++ s) (run_around n e ++ ds) refl ∙ deep_run n (p + length u + 1) e s ds h)
 
-    pub go_on_is : went_on ((summed n (begun d p o m es).at e).at + 1 + 2) (begun d p o m es) (summed n (begun d p o m es).at e) ≡ begun d p o m (es then e)
+    pub go_on_is : went_on (begun d p o m es) (summed n (begun d p o m es).at e) ≡ begun d p o m (es then e)
     go_on_is =
         same_begun
         (rw (split_signs (OpenEnding ∷ (run_signs e ++ (CloseEnding ∷ RightRepeat ∷ []))), length-append u (OpenEnding ∷ (run_signs e ++ (CloseEnding ∷ RightRepeat ∷ []))), length-append (run_signs e) (CloseEnding ∷ RightRepeat ∷ []))
@@ -187,7 +189,7 @@ module _ (d p : ℕ) (o : Left) where
         refl
         (ends_tally_lem es e)
 
-    pub finish_is : finished_as ((summed n (begun d p o m es).at e).at + 1) (begun d p o m es) (summed n (begun d p o m es).at e) ≡ summed d p (nil ▸ group o m es e)
+    pub finish_is : finished_as (begun d p o m es) (summed n (begun d p o m es).at e) ≡ summed d p (nil ▸ group o m es e)
     finish_is =
         same_stretch
         (rw (split_signs (OpenEnding ∷ (run_signs e ++ (CloseEnding ∷ []))), length-append u (OpenEnding ∷ (run_signs e ++ (CloseEnding ∷ []))), length-append (run_signs e) (CloseEnding ∷ []))

@@ -1,42 +1,34 @@
 -- The first `|:` that is too deep in a list of signs, by its parts.
 -- Assumes nothing.
-use mathlib.Core.Path.{◌≡◌, refl, sym, ap, ◌∙◌}
+use mathlib.Core.Path.{◌≡◌, refl, ap, ◌∙◌}
 use mathlib.Core.Bool.{Bool, true, false, ◌&&◌, not}
-use mathlib.Core.Option.{Option, none, some}
+use mathlib.Core.Option.{none, some}
+use mathlib.Core.Option.{Option as Maybe}
+use Rattle.std.specs.Prelude.{Option, Some, None}
+use Rattle.std.specs.Option.{option_or}
 use mathlib.Core.List.{List, [], ◌∷◌, ◌++◌}
-use Prim.Native.Nat.{ℕ, zero, suc, ◌+◌}
+use Prim.Native.Nat.{ℕ, suc, ◌+◌}
 use native.Mathlib.Omega.{arith}
 use lib.Dec.{ltb}
 use lib.ListN.{length, length-append}
-use borrow.Author.Tests.{ne_eqb}
 use Rattle.refusals.specs.Limits.{document01}
 use Rattle.signs.specs.declared.sign.Sign.{Sign}
 use Rattle.signs.specs.declared.sign.Sign.TheVariants.{LeftRepeat}
-use Rattle.score.specs.Trees.{Left, written, lacking, Run, nil, ◌▸◌, Item, leaf, repeat, group, Ends, no_more, ◌then◌}
+use Rattle.score.specs.Trees.{Left as LeftOf}
+use Rattle.score.specs.Trees.{written, lacking, Run, nil, ◌▸◌, Item, leaf, repeat, group, Ends, no_more, ◌then◌}
 use Rattle.score.specs.Spelling.{left_signs, run_signs, item_signs, ends_signs}
 use Rattle.score.specs.Numbers.{later}
 use Rattle.score.specs.Depth.{inner, left_around, run_around, item_around, ends_around, is_left, first_deep}
-use Rattle.grammar.specs.Stretches.{first_of, open_at, deep_from, deep_of}
+use Rattle.grammar.specs.declared.stretch.Left.TheVariants.{Written}
+use Rattle.grammar.specs.Stretches.{too_deep, deep_from, deep_of}
 
-pub first_none : (a : ℕ) → first_of 0 a ≡ a
-unfolding first_of
-first_none a = refl
+pub or_last : (a : Option ℕ) → option_or a None ≡ a
+or_last None = refl
+or_last (Some i) = refl
 
-pub first_some : (a b : ℕ) → first_of (suc a) b ≡ suc a
-unfolding first_of
-first_some a b = rw (first_of, ne_eqb (suc a) 0 (λ q. omega arith))
-
-pub first_last : (a : ℕ) → first_of a 0 ≡ a
-first_last zero = first_none 0
-first_last (suc a) = first_some a 0
-
-pub first_assoc : (a b c : ℕ) → first_of (first_of a b) c ≡ first_of a (first_of b c)
-first_assoc zero b c = rw (first_none b, first_none (first_of b c))
-first_assoc (suc a) b c = rw (first_some a b, first_some a c, first_some a (first_of b c))
-
-deep_later : (p : ℕ) (o : Option ℕ) → deep_from p (later o) ≡ deep_from (p + 1) o
+deep_later : (p : ℕ) (o : Maybe ℕ) → deep_from p (later o) ≡ deep_from (p + 1) o
 deep_later p none = refl
-deep_later p (some i) = omega arith
+deep_later p (some i) = ap Some (omega arith)
 
 -- a sign that is no `|:`
 pub deep_other : (p d : ℕ) (x : Sign) (s : List Sign) (ds : List ℕ) → is_left x ≡ false → deep_of p (x ∷ s) (d ∷ ds) ≡ deep_of (p + 1) s ds
@@ -44,33 +36,31 @@ unfolding deep_of
 deep_other p d x s ds e = rw (deep_of, e) (deep_later p (first_deep document01.depth s ds))
 
 -- a `|:`
-pub deep_left : (p d : ℕ) (s : List Sign) (ds : List ℕ) → deep_of p (LeftRepeat ∷ s) (d ∷ ds) ≡ first_of (open_at d (p + 1)) (deep_of (p + 1) s ds)
-unfolding deep_of open_at
+pub deep_left : (p d : ℕ) (s : List Sign) (ds : List ℕ) → deep_of p (LeftRepeat ∷ s) (d ∷ ds) ≡ option_or (too_deep (Written d p)) (deep_of (p + 1) s ds)
+unfolding deep_of too_deep
 deep_left p d s ds = go (ltb d document01.depth) refl
   where
-    go : (b : Bool) → ltb d document01.depth ≡ b → deep_of p (LeftRepeat ∷ s) (d ∷ ds) ≡ first_of (open_at d (p + 1)) (deep_of (p + 1) s ds)
-    go true e = rw (deep_of, open_at, e) (deep_later p (first_deep document01.depth s ds) ∙ sym (first_none (deep_of (p + 1) s ds)))
-    go false e =
-        let h : p + 1 ≡ suc p = omega arith in
-        rw (deep_of, open_at, e, h) (ap suc (omega arith) ∙ sym (first_some p (deep_of (suc p) s ds)))
+    go : (b : Bool) → ltb d document01.depth ≡ b → deep_of p (LeftRepeat ∷ s) (d ∷ ds) ≡ option_or (too_deep (Written d p)) (deep_of (p + 1) s ds)
+    go true e = rw (deep_of, too_deep, e) (deep_later p (first_deep document01.depth s ds))
+    go false e = rw (deep_of, too_deep, e) (ap Some (omega arith))
 
 pub deep_append : (u v : List Sign) (du dv : List ℕ) (p : ℕ) → length du ≡ length u
-    → deep_of p (u ++ v) (du ++ dv) ≡ first_of (deep_of p u du) (deep_of (p + length u) v dv)
+    → deep_of p (u ++ v) (du ++ dv) ≡ option_or (deep_of p u du) (deep_of (p + length u) v dv)
 unfolding deep_of
-deep_append [] v [] dv p h = rw (first_none (deep_of (p + 0) v dv)) (ap (λ q. deep_of q v dv) (omega arith))
+deep_append [] v [] dv p h = ap (λ q. deep_of q v dv) (omega arith)
 deep_append [] v (d ∷ du) dv p h = absurd (omega arith)
 deep_append (x ∷ u) v [] dv p h = absurd (omega arith)
 deep_append (x ∷ u) v (d ∷ du) dv p h = go (is_left x && not (ltb d document01.depth)) refl (deep_append u v du dv (p + 1) (omega arith))
   where
-    go : (b : Bool) → (is_left x && not (ltb d document01.depth)) ≡ b → deep_of (p + 1) (u ++ v) (du ++ dv) ≡ first_of (deep_of (p + 1) u du) (deep_of (p + 1 + length u) v dv)
-        → deep_of p (x ∷ (u ++ v)) (d ∷ (du ++ dv)) ≡ first_of (deep_of p (x ∷ u) (d ∷ du)) (deep_of (p + suc (length u)) v dv)
-    go true e r = rw (deep_of, e) (sym (first_some (p + 0) (deep_of (p + suc (length u)) v dv)))
+    go : (b : Bool) → (is_left x && not (ltb d document01.depth)) ≡ b → deep_of (p + 1) (u ++ v) (du ++ dv) ≡ option_or (deep_of (p + 1) u du) (deep_of (p + 1 + length u) v dv)
+        → deep_of p (x ∷ (u ++ v)) (d ∷ (du ++ dv)) ≡ option_or (deep_of p (x ∷ u) (d ∷ du)) (deep_of (p + suc (length u)) v dv)
+    go true e r = rw (deep_of, e)
     go false e r =
         let k : p + suc (length u) ≡ p + 1 + length u = omega arith in
         rw (deep_of, e, deep_later p (first_deep document01.depth (u ++ v) (du ++ dv)), deep_later p (first_deep document01.depth u du), k) r
 
 -- one number a sign
-pub left_around_lem : (d : ℕ) (o : Left) → length (left_around d o) ≡ length (left_signs o)
+pub left_around_lem : (d : ℕ) (o : LeftOf) → length (left_around d o) ≡ length (left_signs o)
 left_around_lem d written = refl
 left_around_lem d lacking = refl
 
@@ -89,14 +79,14 @@ mutual
   ends_around_lem d (es then e) = simp (length-append, ends_around_lem d es, run_around_lem d e)
 
 -- signs that are no `|:` have none that is too deep
-pub deep_one : (p d : ℕ) (x : Sign) → is_left x ≡ false → deep_of p (x ∷ []) (d ∷ []) ≡ 0
+pub deep_one : (p d : ℕ) (x : Sign) → is_left x ≡ false → deep_of p (x ∷ []) (d ∷ []) ≡ None
 unfolding deep_of
 deep_one p d x e = rw (deep_of, e)
 
-pub deep_two : (p d b : ℕ) (x y : Sign) → is_left x ≡ false → is_left y ≡ false → deep_of p (x ∷ y ∷ []) (d ∷ b ∷ []) ≡ 0
+pub deep_two : (p d b : ℕ) (x y : Sign) → is_left x ≡ false → is_left y ≡ false → deep_of p (x ∷ y ∷ []) (d ∷ b ∷ []) ≡ None
 deep_two p d b x y e f = deep_other p d x (y ∷ []) (b ∷ []) e ∙ deep_one (p + 1) b y f
 
 -- a run before signs that have none
-pub deep_run : (d p : ℕ) (r : Run) (s : List Sign) (ds : List ℕ) → ((q : ℕ) → deep_of q s ds ≡ 0) → deep_of p (run_signs r ++ s) (run_around d r ++ ds) ≡ deep_of p (run_signs r) (run_around d r)
+pub deep_run : (d p : ℕ) (r : Run) (s : List Sign) (ds : List ℕ) → ((q : ℕ) → deep_of q s ds ≡ None) → deep_of p (run_signs r ++ s) (run_around d r ++ ds) ≡ deep_of p (run_signs r) (run_around d r)
 deep_run d p r s ds h =
-    deep_append (run_signs r) s (run_around d r) ds p (run_around_lem d r) ∙ rw (h (p + length (run_signs r))) (first_last (deep_of p (run_signs r) (run_around d r)))
+    deep_append (run_signs r) s (run_around d r) ds p (run_around_lem d r) ∙ rw (h (p + length (run_signs r))) (or_last (deep_of p (run_signs r) (run_around d r)))

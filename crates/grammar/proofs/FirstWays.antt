@@ -1,149 +1,117 @@
 -- Each way through the reader of the first run is a law.
 -- Assumes nothing.
 use mathlib.Core.Path.{◌≡◌, refl, sym, ap, ◌∙◌}
-use mathlib.Core.List.{List, ◌∷◌}
-use Prim.Native.Nat.{ℕ, suc, ◌+◌, ◌≤◌, ◌<◌}
+use mathlib.Core.Bool.{true, false}
+use Prim.Native.Nat.{ℕ, ◌+◌, ◌≤◌, ◌<◌}
 use native.Mathlib.Nat.{add-zero}
 use native.Mathlib.Omega.{arith}
+use mathlib.Core.List.{List}
 use lib.ListN.{length, drop}
+use Rattle.std.specs.Prelude.{Some, Result, Ok, Err}
+use Rattle.signs.specs.declared.sign.Sign.TheVariants.{RightRepeat, OpenEnding}
 use Rattle.score.specs.Trees.{lacking, Run, nil, ◌▸◌, Item, repeat, no_more}
 use Rattle.score.specs.Readings.{is_group}
-use Rattle.score.proofs.Alphabet.{closes, left}
-use Rattle.score.proofs.Reader.{ended, halted, read_run, read_ends, read_implied}
-use Rattle.grammar.specs.declared.run.Ran.{Ran}
-use Rattle.grammar.specs.declared.run.Ran.TheVariants.{Ended, Halted}
+use Rattle.score.proofs.Reader.{Ran, ended, halted, Got, item, halted_in, on_item, after_first, read_run, read_ends, read_implied}
+use Rattle.grammar.specs.declared.place.Halt.{Halt}
+use Rattle.grammar.specs.declared.stretch.Last.TheVariants.{NoItem}
+use Rattle.grammar.specs.declared.stretch.Left.TheVariants.{Lacking}
 use Rattle.grammar.specs.declared.stretch.Stretch.{Stretch}
-use Rattle.grammar.specs.Kinds.{kinds_of, kind_at}
-use Rattle.grammar.specs.Stretches.{closed_as, begun_as, summed, begun}
-use Rattle.grammar.specs.Promises.{enough, RunIs, EndsIs}
-use Rattle.grammar.specs.First.{Firsts, FirstIs}
-use Rattle.grammar.proofs.Heads.{bracket_at, first_left, first_wrong}
+use Rattle.grammar.specs.declared.stretch.Begun.{Begun}
+use Rattle.grammar.specs.Kinds.{kinds_of, sign_at, halt, ends_here}
+use Rattle.grammar.specs.Stretches.{closed_as, begun_as, summed}
+use Rattle.grammar.specs.Promises.{enough, Inside, RanAs, GotAs, RunIs, EndsIs}
+use Rattle.grammar.specs.First.{FirstIs}
+use Rattle.grammar.proofs.Heads.{sign_head, stands, ends_left, ends_is, first_left, first_wrong}
 use Rattle.grammar.proofs.Adding.{close_is, begin_is}
-use Rattle.grammar.proofs.Ways.{fuel, last_some}
+use Rattle.grammar.proofs.Ways.{fuel, from, behind, sums, last_some}
 
 module _ (w : List ℕ) (s : Stretch) where
-  abbrev Halts : ℕ → ℕ → Run → Type 0
-  Halts q f t = read_implied f t (drop s.at (kinds_of w)) ≡ halted (drop q (kinds_of w))
+  -- behind the run that was read
+  abbrev After : ℕ → Result Stretch Halt → ℕ → Ran → Type 0
+  After p r n x = RanAs w 0 p r (after_first (λ q l. read_implied n q l) (λ m l. read_ends n lacking m no_more l) x)
 
-  pub first_halts : (q : ℕ) → RunIs w 0 s (Halted q) → FirstIs w s (Halted q)
-  first_halts q m = (m.0, λ f l p t e. fuel (λ (f : ℕ). Halts q f t) (enough w s.at) (λ n h. rw (m.1 n h t)) f l)
+  -- the first run's promise, from that of the run that was read
+  by_run : (u r : Result Stretch Halt) → RunIs w 0 s u → Inside w s.at r → ((n : ℕ) → enough w s.at ≤ n → (p : ℕ) (x : Ran) → RanAs w 0 p u x → After p r n x) → FirstIs w s r
+  by_run u r m i go =
+      (i, λ f l p t e. fuel (λ (f : ℕ). RanAs w 0 p r (read_implied f t (drop s.at (kinds_of w)))) (enough w s.at) (λ n h. go n h p (read_run n t (drop s.at (kinds_of w))) (sums w 0 s p t e u (read_run n t (drop s.at (kinds_of w))) (m.1 n h t))) f l)
 
-  module _ (x : Stretch) (m : RunIs w 0 s (Ended x)) where
-    pub first_empty : x.last ≡ 0 → FirstIs w s (Halted x.at)
-    first_empty z = (m.1, λ f l p t e. fuel (λ (f : ℕ). Halts x.at f t) (enough w s.at) (λ n h. let c = m.2 n h p t e in go n p t c.tree c.reads c.sums) f l)
+  pub first_halts : (h : Halt) → RunIs w 0 s (Err h) → FirstIs w s (Err h)
+  first_halts h m = by_run (Err h) (Err h) m m.0 (λ n l. go n)
+    where
+      go : (n p : ℕ) (x : Ran) → RanAs w 0 p (Err h) x → After p (Err h) n x
+      go n p (halted l) q = q
+      go n p (ended t l) q = absurd q
+
+  module _ (x : Stretch) (m : RunIs w 0 s (Ok x)) where
+    pub first_empty : x.last ≡ NoItem → FirstIs w s (Err (halt x.at))
+    first_empty z = by_run (Ok x) (Err (halt x.at)) m m.0.1 (λ n l. go n)
       where
-        go : (n p : ℕ) (t u : Run) → read_run n t (drop s.at (kinds_of w)) ≡ ended u (drop x.at (kinds_of w)) → x ≡ summed 0 p u → Halts x.at (suc n) t
-        go n p t nil r e = rw r
-        go n p t (u ▸ i) r e = absurd (last_some (is_group i) (sym (ap (λ q. q.last) e) ∙ z))
+        go : (n p : ℕ) (o : Ran) → RanAs w 0 p (Ok x) o → After p (Err (halt x.at)) n o
+        go n p (halted l) q = absurd q
+        go n p (ended nil l) q = q.0
+        go n p (ended (t ▸ i) l) q = absurd (last_some (is_group i) (sym (ap (λ u. u.last) q.1) ∙ z))
 
-    module _ (z : x.last ≡ 0 → ⊥) where
-      -- the run that was read, with its last item
-      pub record Part (n p : ℕ) (t : Run) : Type 0 where
-        pub before : Run
-        pub last : Item
-        pub reads : read_run n t (drop s.at (kinds_of w)) ≡ ended (before ▸ last) (drop x.at (kinds_of w))
-        pub sums : x ≡ summed 0 p (before ▸ last)
-
-      part : (n p : ℕ) (t : Run) → enough w s.at ≤ n → s ≡ summed 0 p t → Part n p t
-      part n p t h e = let c = m.2 n h p t e in go c.tree c.reads c.sums
+    module _ (z : x.last ≡ NoItem → ⊥) where
+      -- what is to be shown where the run has an item
+      by_items : (r : Result Stretch Halt) → Inside w s.at r → ((n : ℕ) → enough w s.at ≤ n → (p : ℕ) (t : Run) (i : Item) → x ≡ summed 0 p (t ▸ i) → After p r n (ended (t ▸ i) (drop x.at (kinds_of w)))) → FirstIs w s r
+      by_items r i go = by_run (Ok x) r m i go_on
         where
-          go : (u : Run) → read_run n t (drop s.at (kinds_of w)) ≡ ended u (drop x.at (kinds_of w)) → x ≡ summed 0 p u → Part n p t
-          go nil r e = absurd (z (ap (λ q. q.last) e))
-          go (u ▸ i) r e = record { before = u; last = i; reads = r; sums = e }
+          go_on : (n : ℕ) → enough w s.at ≤ n → (p : ℕ) (o : Ran) → RanAs w 0 p (Ok x) o → After p r n o
+          go_on n h p (halted l) q = absurd q
+          go_on n h p (ended nil l) q = absurd (z (ap (λ u. u.last) q.1))
+          go_on n h p (ended (t ▸ i) l) q = rw q.0 (go n h p t i q.1)
 
       -- what stands after a `|:` that lacks
       at_zero : (p : ℕ) (r : Run) → x ≡ summed 0 p r → x ≡ summed 0 (p + 0) r
       at_zero p r e = e ∙ ap (λ q. summed 0 q r) (sym (add-zero p))
 
-      pub first_wrongs : (kind_at w x.at ≡ 4 → ⊥) → (kind_at w x.at ≡ 5 → ⊥) → kind_at w x.at < 7 → FirstIs w s (Halted x.at)
-      unfolding kind_at
-      first_wrongs g h k = (
-        m.1,
-        λ f l p t e. fuel (λ (f : ℕ). Halts x.at f t) (enough w s.at)
-            (λ n i. let c = part n p t i e in
-            rw c.reads (first_wrong (λ q j. read_implied n q j) (λ r j. read_ends n lacking r no_more j) c.before c.last (drop x.at (kinds_of w)) g h k)) f l,
-      )
+      pub first_wrongs : ends_left (sign_at w x.at) ≡ false → ends_here w x.at ≡ false → FirstIs w s (Err (halt x.at))
+      first_wrongs g h =
+          by_items (Err (halt x.at)) m.0.1
+          (λ n l p t i e.
+          rw (first_wrong t i (λ q l. read_implied n q l) (λ m l. read_ends n lacking m no_more l) (drop x.at (kinds_of w)) (ap ends_left (sym (sign_head w x.at)) ∙ g) (sym (ends_is w x.at) ∙ h)))
 
-      pub first_ends : 7 ≤ kind_at w x.at → FirstIs w s (Ended x)
-      unfolding kind_at
-      first_ends k = (
-        m.0,
-        m.1,
-        λ f l p t e. fuel (λ (f : ℕ). Firsts w s x f p t) (enough w s.at)
-            (λ n i. let c = part n p t i e in
-            record {
-              tree = c.before ▸ c.last;
-              reads = rw c.reads (first_left (λ q j. read_implied n q j) (λ r j. read_ends n lacking r no_more j) c.before c.last (drop x.at (kinds_of w)) k);
-              sums = c.sums;
-            }) f l,
-      )
+      pub first_ends : ends_here w x.at ≡ true → FirstIs w s (Ok x)
+      first_ends h =
+          by_items (Ok x) m.0
+          (λ n l p t i e. rw (first_left t i (λ q l. read_implied n q l) (λ m l. read_ends n lacking m no_more l) (drop x.at (kinds_of w)) (sym (ends_is w x.at) ∙ h)) (refl, e))
 
-      module _ (k : kind_at w x.at ≡ 4) where
-        closing : (x.at < length w) × (drop x.at (kinds_of w) ≡ closes ∷ drop (x.at + 1) (kinds_of w))
-        closing = bracket_at w x.at 4 k (omega arith) (omega arith)
+      pub first_closes : (y : Stretch) → y ≡ closed_as Lacking x → sign_at w x.at ≡ Some RightRepeat → (r : Result Stretch Halt) → FirstIs w y r → FirstIs w s r
+      first_closes y v k r ih =
+          let a : y.at ≡ x.at + 1 = ap (λ q. q.at) v in
+          let b = m.0.0 in
+          let c = (stands w x.at RightRepeat k).0 in
+          by_items r (from w s.at y.at r (omega arith) ih.0)
+          (λ n l p t i e. rw (behind w x.at y.at RightRepeat k a) (ih.1 n (omega arith) p (nil ▸ repeat lacking (t ▸ i)) (v ∙ ap (closed_as Lacking) (at_zero p (t ▸ i) e) ∙ close_is 0 p lacking (t ▸ i))))
 
-        closed : (p : ℕ) (r : Run) → x ≡ summed 0 p r → closed_as (x.at + 1) 0 1 x ≡ summed 0 p (nil ▸ repeat lacking r)
-        closed p r e = ap (λ q. closed_as (q.at + 1) 0 1 q) (at_zero p r e) ∙ close_is 0 p lacking r
+      module _ (g : Begun) (v : g ≡ begun_as Lacking x) (k : sign_at w x.at ≡ Some OpenEnding) where
+        at_left : (x.at < length w) × (g.at ≡ x.at + 1)
+        at_left = ((stands w x.at OpenEnding k).0, ap (λ q. q.at) v)
 
-        pub first_closes : (r : Ran) → FirstIs w (closed_as (x.at + 1) 0 1 x) r → FirstIs w s r
-        first_closes (Ended y) ih =
-            let a = m.0 in
-            let b = ih.0 in
-            let v = closing.0 in (
-              omega arith,
-              ih.1,
-              λ f l p t e. fuel (λ (f : ℕ). Firsts w s y f p t) (enough w s.at)
-                  (λ n i. let c = part n p t i e in
-                  let u = ih.2 n (omega arith) p (nil ▸ repeat lacking (c.before ▸ c.last)) (closed p (c.before ▸ c.last) c.sums) in
-                  record { tree = u.tree; reads = rw (c.reads, closing.1) u.reads; sums = u.sums }) f l,
-            )
-        first_closes (Halted q) ih =
-            let a = m.0 in
-            let v = closing.0 in (
-              ih.0,
-              λ f l p t e. fuel (λ (f : ℕ). Halts q f t) (enough w s.at)
-                  (λ n i. let c = part n p t i e in
-                  rw (c.reads, closing.1) (ih.1 n (omega arith) p (nil ▸ repeat lacking (c.before ▸ c.last)) (closed p (c.before ▸ c.last) c.sums))) f l,
-            )
+        -- what is to be shown of the group
+        by_group : (u r : Result Stretch Halt) → EndsIs w 0 g u → Inside w s.at r → ((n : ℕ) → enough w s.at ≤ n → (p : ℕ) (o : Got) → GotAs w 0 p u o → RanAs w 0 p r (on_item (λ j l. read_implied n (nil ▸ j) l) o)) → FirstIs w s r
+        by_group u r e i go =
+            let b = m.0.0 in
+            let c = at_left in
+            by_items r i
+            (λ n l p t i q.
+            rw (behind w x.at g.at OpenEnding k at_left.1)
+            (go n l p (read_ends n lacking (t ▸ i) no_more (drop g.at (kinds_of w))) (e.1 n (omega arith) 0 p lacking (t ▸ i) no_more refl (v ∙ ap (begun_as Lacking) (at_zero p (t ▸ i) q) ∙ begin_is 0 p lacking (t ▸ i)))))
 
-      module _ (k : kind_at w x.at ≡ 5) where
-        opening : (x.at < length w) × (drop x.at (kinds_of w) ≡ left ∷ drop (x.at + 1) (kinds_of w))
-        opening = bracket_at w x.at 5 k (omega arith) (omega arith)
+        pub first_stops : (h : Halt) → EndsIs w 0 g (Err h) → FirstIs w s (Err h)
+        first_stops h e = by_group (Err h) (Err h) e e.0 (λ n l. go n)
+          where
+            go : (n p : ℕ) (o : Got) → GotAs w 0 p (Err h) o → RanAs w 0 p (Err h) (on_item (λ j l. read_implied n (nil ▸ j) l) o)
+            go n p (item j l) q = absurd q
+            go n p (halted_in l) q = q
 
-        begins : (p : ℕ) (r : Run) → x ≡ summed 0 p r → begun_as (x.at + 1) 0 1 x ≡ begun 0 p lacking r no_more
-        begins p r e = ap (λ q. begun_as (q.at + 1) 0 1 q) (at_zero p r e) ∙ begin_is 0 p lacking r
-
-        pub first_stops : (q : ℕ) → EndsIs w 0 (begun_as (x.at + 1) 0 1 x) (Halted q) → FirstIs w s (Halted q)
-        first_stops q g =
-            let a = m.0 in
-            let v = opening.0 in (
-              g.0,
-              λ f l p t e. fuel (λ (f : ℕ). Halts q f t) (enough w s.at)
-                  (λ n i. let c = part n p t i e in
-                  rw (c.reads, opening.1, g.1 n (omega arith) 0 p lacking (c.before ▸ c.last) no_more refl (begins p (c.before ▸ c.last) c.sums))) f l,
-            )
-
-        pub first_groups : (y : Stretch) (r : Ran) → EndsIs w 0 (begun_as (x.at + 1) 0 1 x) (Ended y) → FirstIs w y r → FirstIs w s r
-        first_groups y (Ended v) g ih =
-            let a = m.0 in
-            let b = g.0 in
-            let d = ih.0 in
-            let j = opening.0 in (
-              omega arith,
-              ih.1,
-              λ f l p t e. fuel (λ (f : ℕ). Firsts w s v f p t) (enough w s.at)
-                  (λ n i. let c = part n p t i e in
-                  let z = g.2 n (omega arith) 0 p lacking (c.before ▸ c.last) no_more refl (begins p (c.before ▸ c.last) c.sums) in
-                  let u = ih.2 n (omega arith) p (nil ▸ z.whole) z.sums in
-                  record { tree = u.tree; reads = rw (c.reads, opening.1, z.reads) u.reads; sums = u.sums }) f l,
-            )
-        first_groups y (Halted q) g ih =
-            let a = m.0 in
-            let b = g.0 in
-            let j = opening.0 in (
-              ih.0,
-              λ f l p t e. fuel (λ (f : ℕ). Halts q f t) (enough w s.at)
-                  (λ n i. let c = part n p t i e in
-                  let z = g.2 n (omega arith) 0 p lacking (c.before ▸ c.last) no_more refl (begins p (c.before ▸ c.last) c.sums) in
-                  rw (c.reads, opening.1, z.reads) (ih.1 n (omega arith) p (nil ▸ z.whole) z.sums)) f l,
-            )
+        pub first_groups : (y : Stretch) (r : Result Stretch Halt) → EndsIs w 0 g (Ok y) → FirstIs w y r → FirstIs w s r
+        first_groups y r e ih =
+            let b = m.0.0 in
+            let c = at_left in
+            let d = e.0.0 in
+            by_group (Ok y) r e (from w s.at y.at r (omega arith) ih.0) (λ n l. go n (omega arith))
+          where
+            go : (n : ℕ) → enough w y.at + 1 ≤ n → (p : ℕ) (o : Got) → GotAs w 0 p (Ok y) o → RanAs w 0 p r (on_item (λ j l. read_implied n (nil ▸ j) l) o)
+            go n h p (item j l) q = rw q.0 (ih.1 n h p (nil ▸ j) q.1)
+            go n h p (halted_in l) q = absurd q

@@ -1,12 +1,10 @@
 -- What the proofs of several functions use.
-mod Adding
+pub mod Adding
 pub mod Capped
 mod Deep
+pub mod Heads
+pub mod Leaving
 mod FirstWays
-mod Heads
-mod Leaving
-mod Places
-mod StartWays
-mod Tests
-mod Ways
-mod WholeWays
+pub mod StartWays
+pub mod Ways
+pub mod WholeWays

@@ -1,68 +1,50 @@
--- The kinds of signs as numbers, and what is told of the signs from a place on.
+-- The kinds of a list of words, and what is told of the signs from a place on.
 -- Assumes nothing.
-use Rattle.std.specs.Prelude.{Bool, cond, ◌&&◌, List, [], ◌∷◌, map, ℕ, ◌+◌, eqb, drop}
+use Rattle.std.specs.Prelude.{Bool, true, false, List, map, ℕ, ◌+◌, leb, length, Option, Some, None, option_and_then, slice_get}
+use Rattle.signs.specs.declared.sign.Sign.{Sign}
+use Rattle.signs.specs.declared.sign.Sign.TheVariants.{RightRepeat, OpenEnding, Jump, Segno, Coda, ToCoda, Fine}
 use Rattle.signs.specs.Words.{sign_of}
-use Rattle.score.specs.Played.{beats}
-use Rattle.score.proofs.Alphabet.{Mark, to_dc, to_dc_coda, to_dc_fine, to_ds, to_ds_coda, to_ds_fine, at_segno, at_coda, at_to_coda, at_fine, Kind, plays, time, opens, closes, left, right, mark, strange, kind_of}
+use Rattle.score.proofs.Alphabet.{Kind, kind_of}
+use Rattle.grammar.specs.declared.place.Halt.{Halt}
+use Rattle.grammar.specs.declared.stretch.Last.{Last}
+use Rattle.grammar.specs.declared.stretch.Last.TheVariants.{Group}
 
 -- the kinds of a list of words
 abbrev pub kinds_of : List ℕ → List Kind
 kinds_of w = map kind_of (map sign_of w)
 
-abbrev pub mark_code : Mark → ℕ
-mark_code to_dc_coda = 7
-mark_code to_dc_fine = 8
-mark_code to_ds_coda = 9
-mark_code to_ds_fine = 10
-mark_code to_dc = 11
-mark_code to_ds = 12
-mark_code at_segno = 13
-mark_code at_coda = 14
-mark_code at_to_coda = 15
-mark_code at_fine = 16
+-- the sign at a place, if one stands there
+unfoldable pub sign_at : List ℕ → ℕ → Option Sign
+sign_at w at = option_and_then sign_of (slice_get w at)
 
--- a kind as a number: that of its sign's word, 0 for what is no sign
-abbrev pub code : Kind → ℕ
-code (plays x) = 1
-code (time m n) = 2
-code opens = 3
-code closes = 4
-code left = 5
-code right = 6
-code (mark j) = mark_code j
-code strange = 0
-
--- the first kind of a list, 17 where there is none
-abbrev pub head_code : List Kind → ℕ
-head_code [] = 17
-head_code (x ∷ l) = code x
-
--- the beats of a kind that is a block
-abbrev pub kind_beats : Kind → ℕ
-kind_beats (plays x) = beats x
-kind_beats (time m n) = 0
-kind_beats opens = 0
-kind_beats closes = 0
-kind_beats left = 0
-kind_beats right = 0
-kind_beats (mark j) = 0
-kind_beats strange = 0
-
-abbrev pub head_beats : List Kind → ℕ
-head_beats [] = 0
-head_beats (x ∷ l) = kind_beats x
-
--- the kind of the sign at a place
-unfoldable pub kind_at : List ℕ → ℕ → ℕ
-kind_at w at = head_code (drop at (kinds_of w))
-
-unfoldable pub beats_at : List ℕ → ℕ → ℕ
-beats_at w at = head_beats (drop at (kinds_of w))
+abbrev pub halt : ℕ → Halt
+halt at = record { at = at }
 
 -- where the readers halt at a sign that cannot stand at a place: one later for a `:|` directly after a group, which a `[` could have followed
-abbrev pub halt_at : List ℕ → ℕ → ℕ → ℕ
-halt_at w last at = cond (eqb last 2 && eqb (kind_at w at) 4) (at + 1) at
+abbrev pub halt_by : Last → Option Sign → ℕ → ℕ
+halt_by Group (Some RightRepeat) at = at + 1
+halt_by _ _ at = at
+
+abbrev pub halt_at : List ℕ → Last → ℕ → Halt
+halt_at w last at = halt (halt_by last (sign_at w at) at)
 
 -- `:|` and `[` stand at a place
+abbrev pub another_ending : Option Sign → Option Sign → Bool
+another_ending (Some RightRepeat) (Some OpenEnding) = true
+another_ending _ _ = false
+
 abbrev pub goes_on : List ℕ → ℕ → Bool
-goes_on w at = eqb (kind_at w at) 4 && eqb (kind_at w (at + 1)) 5
+goes_on w at = another_ending (sign_at w at) (sign_at w (at + 1))
+
+-- the last run of a part ends at a place: at a sign between runs, or where the signs end
+abbrev pub ends_by : Option Sign → Bool → Bool
+ends_by None past = past
+ends_by (Some (Jump j)) past = true
+ends_by (Some Segno) past = true
+ends_by (Some Coda) past = true
+ends_by (Some ToCoda) past = true
+ends_by (Some Fine) past = true
+ends_by _ past = false
+
+abbrev pub ends_here : List ℕ → ℕ → Bool
+ends_here w at = ends_by (sign_at w at) (leb (length w) at)

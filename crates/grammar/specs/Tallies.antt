@@ -1,6 +1,6 @@
 -- Sums that stop at a bound, and how the sums of a run, a repeat and a group are made of those inside.
 -- Assumes nothing.
-use Rattle.std.specs.Prelude.{cond, ℕ, ◌+◌, ◌*◌, ltb}
+use Rattle.std.specs.Prelude.{ℕ, ◌+◌, ◌*◌, min}
 use Rattle.grammar.specs.declared.tally.Tally.{Tally}
 
 abbrev pub most : ℕ
@@ -8,7 +8,7 @@ most = 1000000000000
 
 -- a number, up to the bound
 unfoldable pub capped : ℕ → ℕ
-capped n = cond (ltb most n) most n
+capped n = min n most
 
 abbrev pub tally : ℕ → ℕ → ℕ → ℕ → ℕ → ℕ → Tally
 tally loops implied labels blocks beats steps = record { loops = loops; implied = implied; labels = labels; blocks = blocks; beats = beats; steps = steps }

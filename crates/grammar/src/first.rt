@@ -2,40 +2,28 @@
 ghost use Rattle.std.specs.Prelude.{◌≤◌, length};
 ghost use Rattle.grammar.specs.First.{FirstIs};
 
-use crate::run::Ran;
-use crate::stretch::Stretch;
-use crate::{kind, run, stretch};
+use crate::place::Halt;
+use crate::stretch::{Last, Left, Stretch};
+use crate::{place, run};
+use signs::Sign;
 
 // On in the first run, of which some was read: a `:|` closes all of it, a `[` begins endings after it.
-pub fn read_first(words: &[u64], run: Stretch) -> Ran
+#[tactic(auto, using(crate::proofs::Heads::stands))]
+pub(crate) fn read_first(words: &[u64], run: Stretch) -> Result<Stretch, Halt>
     requires { run.at ≤ length words.now }
     ensures { FirstIs words.now run result }
 {
-    let read = run::read_run(words, 0, run);
-    match read {
-        Ran::Ended(first) => {
-            let place = first.at;
-            if first.last == 0 {
-                return Ran::Halted(place);
-            }
-            let kind = kind::kind_at(words, place);
-            if kind == 4 {
-                let next = place + 1;
-                return read_first(words, stretch::close(next, 0, 1, first));
-            }
-            if kind == 5 {
-                let next = place + 1;
-                let group = run::read_endings(words, 0, stretch::begin(next, 0, 1, first));
-                return match group {
-                    Ran::Ended(item) => read_first(words, item),
-                    Ran::Halted(halt) => Ran::Halted(halt),
-                };
-            }
-            if kind < kind::BETWEEN {
-                return Ran::Halted(place);
-            }
-            Ran::Ended(first)
+    let first = run::read_run(words, 0, run)?;
+    if let Last::NoItem = first.last {
+        return Err(Halt { at: first.at });
+    }
+    match place::sign_at(words, first.at) {
+        Some(Sign::RightRepeat) => read_first(words, first.close(Left::Lacking)),
+        Some(Sign::OpenEnding) => {
+            let group = run::read_endings(words, 0, first.begin(Left::Lacking))?;
+            read_first(words, group)
         }
-        Ran::Halted(place) => Ran::Halted(place),
+        _ if place::ends_here(words, first.at) => Ok(first),
+        _ => Err(Halt { at: first.at }),
     }
 }

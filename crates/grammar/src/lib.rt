@@ -3,11 +3,13 @@
 #![tactic(auto)]
 
 mod first;
-mod kind;
+mod part;
+mod place;
 mod run;
 mod stretch;
 mod tally;
 mod whole;
 
+pub use place::Halt;
 pub use tally::{Tally, add};
-pub use whole::{Sofar, Whole, read_score};
+pub use whole::{Whole, read_score};

@@ -1,12 +1,28 @@
 // Sums over what was read; they stop at a bound that no score within the limits comes near, so that none wraps.
 ghost use Rattle.std.specs.Prelude.{◌≡◌, ◌+◌, ◌*◌};
-ghost use Rattle.grammar.specs.Tallies.{capped, nothing, block_tally, joined, repeated, grouped};
+ghost use Rattle.grammar.specs.Tallies.{capped, block_tally, joined, repeated, grouped};
 
 // The bound.
-pub const MOST: u64 = 1000000000000;
+pub(crate) const MOST: u64 = 1000000000000;
+
+// The sum, up to the bound.
+#[tactic(auto, unfolding(crate::specs::Tallies::capped))]
+pub fn add(a: u64, b: u64) -> u64
+    ensures { result ≡ capped (a + b) }
+{
+    a.saturating_add(b).min(MOST)
+}
+
+// The product, up to the bound.
+#[tactic(auto, unfolding(crate::specs::Tallies::capped))]
+pub(crate) fn times(n: u64, a: u64) -> u64
+    ensures { result ≡ capped (n * a) }
+{
+    n.saturating_mul(a).min(MOST)
+}
 
 // What is counted of a run: loops, those of them that are implied, labels, blocks and beats played, and steps.
-#[derive(Clone, Copy)]
+#[derive(Clone, Copy, Debug, Default, PartialEq, Eq)]
 pub struct Tally {
     pub loops: u64,
     pub implied: u64,
@@ -16,99 +32,59 @@ pub struct Tally {
     pub steps: u64,
 }
 
-// The sum, up to the bound.
-pub fn add(a: u64, b: u64) -> u64
-    ensures { result ≡ capped (a + b) }
-{
-    if MOST < a {
-        return MOST;
+impl Tally {
+    // A block.
+    pub(crate) fn block(beats: u64) -> Tally
+        ensures { result ≡ block_tally beats }
+    {
+        Tally {
+            blocks: 1,
+            beats: add(beats, 0),
+            steps: 1,
+            ..Tally::default()
+        }
     }
-    if MOST < b {
-        return MOST;
-    }
-    let sum = a + b;
-    if MOST < sum { MOST } else { sum }
-}
 
-// The product, up to the bound.
-pub fn times(n: u64, a: u64) -> u64
-    ensures { result ≡ capped (n * a) }
-{
-    if a == 0 {
-        return 0;
+    // One after the other.
+    pub(crate) fn join(self, next: Tally) -> Tally
+        ensures { result ≡ joined self next }
+    {
+        Tally {
+            loops: add(self.loops, next.loops),
+            implied: add(self.implied, next.implied),
+            labels: add(self.labels, next.labels),
+            blocks: add(self.blocks, next.blocks),
+            beats: add(self.beats, next.beats),
+            steps: add(self.steps, next.steps),
+        }
     }
-    if MOST / a < n {
-        return MOST;
-    }
-    n * a
-}
 
-pub fn none() -> Tally
-    ensures { result ≡ nothing }
-{
-    Tally {
-        loops: 0,
-        implied: 0,
-        labels: 0,
-        blocks: 0,
-        beats: 0,
-        steps: 0,
+    // A plain repeat of the run; `lacks` is 1 where its `|:` lacks.
+    pub(crate) fn repeat(self, lacks: u64) -> Tally
+        ensures { result ≡ repeated lacks self }
+    {
+        Tally {
+            loops: add(1, self.loops),
+            implied: add(lacks, self.implied),
+            labels: self.labels,
+            blocks: times(2, self.blocks),
+            beats: times(2, self.beats),
+            steps: add(3, times(2, self.steps)),
+        }
     }
-}
 
-// A block.
-pub fn block(beats: u64) -> Tally
-    ensures { result ≡ block_tally beats }
-{
-    Tally {
-        loops: 0,
-        implied: 0,
-        labels: 0,
-        blocks: 1,
-        beats: add(beats, 0),
-        steps: 1,
-    }
-}
-
-// One after the other.
-pub fn join(a: Tally, b: Tally) -> Tally
-    ensures { result ≡ joined a b }
-{
-    Tally {
-        loops: add(a.loops, b.loops),
-        implied: add(a.implied, b.implied),
-        labels: add(a.labels, b.labels),
-        blocks: add(a.blocks, b.blocks),
-        beats: add(a.beats, b.beats),
-        steps: add(a.steps, b.steps),
-    }
-}
-
-// A plain repeat of a run; `lacks` is 1 where its `|:` lacks.
-pub fn repeat(lacks: u64, run: Tally) -> Tally
-    ensures { result ≡ repeated lacks run }
-{
-    Tally {
-        loops: add(1, run.loops),
-        implied: add(lacks, run.implied),
-        labels: run.labels,
-        blocks: times(2, run.blocks),
-        beats: times(2, run.beats),
-        steps: add(3, times(2, run.steps)),
-    }
-}
-
-// A group of n endings after a run; `lacks` is 1 where its `|:` lacks.
-pub fn group(lacks: u64, n: u64, run: Tally, ends: Tally) -> Tally
-    ensures { result ≡ grouped lacks n run ends }
-{
-    let turn = add(run.steps, add(times(2, n), 1));
-    Tally {
-        loops: add(1, add(run.loops, ends.loops)),
-        implied: add(lacks, add(run.implied, ends.implied)),
-        labels: add(n, add(run.labels, ends.labels)),
-        blocks: add(times(n, run.blocks), ends.blocks),
-        beats: add(times(n, run.beats), ends.beats),
-        steps: add(1, add(times(n, turn), ends.steps)),
+    // A group of n endings after the run; `lacks` is 1 where its `|:` lacks.
+    pub(crate) fn group(self, lacks: u64, n: u64, ends: Tally) -> Tally
+        ensures { result ≡ grouped lacks n self ends }
+    {
+        let turn = add(self.steps, add(times(2, n), 1));
+        Tally {
+            loops: add(1, add(self.loops, ends.loops)),
+            implied: add(lacks, add(self.implied, ends.implied)),
+            labels: add(n, add(self.labels, ends.labels)),
+            blocks: add(times(n, self.blocks), ends.blocks),
+            beats: add(times(n, self.beats), ends.beats),
+            steps: add(1, add(times(n, turn), ends.steps)),
+        }
     }
 }

@@ -1,18 +1,16 @@
 -- The rules of refusal 11, and its answer.
 -- Assumes nothing.
-use Rattle.std.specs.Prelude.{◌≡◌, List, ◌⊎◌, ℕ, ◌<◌, ◌≤◌, length, get_or}
+use Rattle.std.specs.Prelude.{◌≡◌, List, ◌⊎◌, ℕ, ◌<◌, ◌≤◌, length, get_or, Some, None, Result, Ok, Err}
 use Rattle.refusals.specs.Limits.{Limits}
+use Rattle.refusals.specs.declared.Refusal.{Refusal}
 use Rattle.refusals.specs.declared.Refusal.TheVariants.{BadListing}
 use Rattle.instructions.specs.declared.Instruction.{Instruction}
-use Rattle.instructions.specs.declared.Unpacked.TheVariants.{Is, Nothing}
-use Rattle.instructions.specs.declared.listing.Tested.{Tested}
-use Rattle.instructions.specs.declared.listing.Tested.TheVariants.{Good, Refused}
 use Rattle.instructions.specs.Forms.{loop_of, label_of, block, loop, rep, lb, jmp, njmp}
 use Rattle.instructions.specs.Words.{unpacked}
 
 -- instruction i of the listing is x
 abbrev pub At : List ℕ → ℕ → Instruction → Type 0
-At listing i x = unpacked (get_or listing i 0) ≡ Is x
+At listing i x = unpacked (get_or listing i 0) ≡ Some x
 
 -- instruction i is a `rep` or a jump that names loop L, with T
 pub data Names (listing : List ℕ) (i L T : ℕ) : Type 0 where
@@ -34,7 +32,7 @@ pub data Breaks (l : Limits) (listing : List ℕ) (i : ℕ) : Type 0 where
   -- number 2,048 and beyond
   beyond : i < length listing → l.instructions ≤ i → Breaks l listing i
   -- a word that is no instruction
-  unreadable : i < length listing → unpacked (get_or listing i 0) ≡ Nothing → Breaks l listing i
+  unreadable : i < length listing → unpacked (get_or listing i 0) ≡ None → Breaks l listing i
   -- loop above 63
   high_loop : (x : Instruction) → At listing i x → l.loops ≤ loop_of x → Breaks l listing i
   -- or label above 1,023
@@ -60,6 +58,6 @@ abbrev pub First : Limits → List ℕ → ℕ → Type 0
 First l listing i = Breaks l listing i × ((j : ℕ) → j < i → Breaks l listing j → ⊥)
 
 -- what test 11 must answer: good where no instruction breaks a rule, else the first that does
-pub data Right (l : Limits) (listing : List ℕ) : Tested → Type 0 where
-  good : ((i : ℕ) → Breaks l listing i → ⊥) → Right l listing Good
-  refused : (i : ℕ) → First l listing i → Right l listing (Refused (BadListing i))
+pub data Right (l : Limits) (listing : List ℕ) : Result (Unit {0}) Refusal → Type 0 where
+  good : ((i : ℕ) → Breaks l listing i → ⊥) → Right l listing (Ok tt)
+  refused : (i : ℕ) → First l listing i → Right l listing (Err (BadListing i))

@@ -1,15 +1,14 @@
 -- Test 11 as a computation, by the first place of each mark and `rep`; its answer is `Right` (proofs/Listings.antt).
 -- Assumes nothing.
-use Rattle.std.specs.Prelude.{Bool, false, cond, not, ◌&&◌, List, [], ◌∷◌, ℕ, zero, suc, length, get_or, leb, ltb, eqb}
+use Rattle.std.specs.Prelude.{Bool, false, cond, not, ◌&&◌, List, [], ◌∷◌, ℕ, zero, suc, length, get_or, leb, ltb, eqb, Option, Some, None, Result, Ok, Err}
 use Rattle.refusals.specs.Limits.{Limits}
 use Rattle.refusals.specs.Said.{Said, said, said_refusal}
+use Rattle.refusals.specs.declared.Refusal.{Refusal}
 use Rattle.refusals.specs.declared.Refusal.TheVariants.{BadListing}
 use Rattle.instructions.specs.declared.Operation.{Operation}
 use Rattle.instructions.specs.declared.Operation.TheVariants.{Block, Loop, Repeat, Label, Jump, JumpUnless}
-use Rattle.instructions.specs.declared.Unpacked.{Unpacked}
-use Rattle.instructions.specs.declared.Unpacked.TheVariants.{Is, Nothing}
-use Rattle.instructions.specs.declared.listing.Tested.{Tested}
-use Rattle.instructions.specs.declared.listing.Tested.TheVariants.{Good, Refused}
+use Rattle.instructions.specs.declared.Instruction.{Instruction}
+use Rattle.instructions.specs.declared.listing.Looped.{Looped}
 use Rattle.instructions.specs.declared.listing.Checked.{Checked}
 use Rattle.instructions.specs.Forms.{loop_of, label_of}
 use Rattle.instructions.specs.Words.{unpacked}
@@ -29,12 +28,12 @@ obeys l n i m r b (Jump T) = within 1 l.times T && ltb m i && ltb b n
 obeys l n i m r b (JumpUnless T) = within 1 l.times T && ltb m i && ltb b n
 
 -- the same of a word, by tables of those places
-abbrev pub kept_by : Limits → (n i : ℕ) → (marks reps labels : ℕ → ℕ) → Unpacked → Bool
-kept_by l n i marks reps labels (Is x) =
+abbrev pub kept_by : Limits → (n i : ℕ) → (marks reps labels : ℕ → ℕ) → Option Instruction → Bool
+kept_by l n i marks reps labels (Some x) =
     ltb (loop_of x) l.loops
     && ltb (label_of x) l.labels
     && obeys l n i (marks (loop_of x)) (reps (loop_of x)) (labels (label_of x)) x.operation
-kept_by l n i marks reps labels Nothing = false
+kept_by l n i marks reps labels None = false
 
 -- instruction i of the listing keeps the rules, where each one before it does
 unfoldable pub keeps : Limits → List ℕ → ℕ → Bool
@@ -47,28 +46,27 @@ abbrev pub first_break : Limits → List ℕ → ℕ
 first_break l listing = least (λ i. not (keeps l listing i)) (length listing)
 
 -- test 11's answer
-unfoldable pub test_listing : Limits → List ℕ → Tested
+unfoldable pub test_listing : Limits → List ℕ → Result (Unit {0}) Refusal
 test_listing l listing =
     cond
     (ltb (first_break l listing) (length listing))
-    (Refused (BadListing (first_break l listing)))
-    Good
+    (Err (BadListing (first_break l listing)))
+    (Ok tt)
 
 -- document 01's number and values for each answer
-abbrev pub said_tested : Limits → Tested → Said
-said_tested l Good = said 0 []
-said_tested l (Refused r) = said_refusal l r
+abbrev pub said_tested : Limits → Result (Unit {0}) Refusal → Said
+said_tested l (Ok tt) = said 0 []
+said_tested l (Err r) = said_refusal l r
 
 -- f 0 .. f (n - 1)
-unfoldable pub table : ℕ → (ℕ → ℕ) → List ℕ
+unfoldable pub table : {A : Type 0} → ℕ → (ℕ → A) → List A
 table zero f = []
 table (suc n) f = f zero ∷ table n (λ k. f (suc k))
 
--- the answer, with the places of each loop's mark and `rep`
+-- where a loop is first marked and first repeated
+abbrev pub places : List ℕ → ℕ → Looped
+places listing L = record { mark = loop_place listing L; rep = rep_place listing L }
+
+-- the answer, with the places of each loop
 unfoldable pub checking : Limits → List ℕ → Checked
-checking l listing =
-    record {
-      tested = test_listing l listing;
-      marks = table l.loops (loop_place listing);
-      reps = table l.loops (rep_place listing);
-    }
+checking l listing = record { tested = test_listing l listing; loops = table l.loops (places listing) }

@@ -1,11 +1,11 @@
 -- An instruction as a word of 64 bits.
 -- Assumes nothing.
-use Rattle.std.specs.Prelude.{ℕ, ◌+◌, ◌*◌, ◌/◌, ◌%◌, ◌^◌, cond, not, ◌&&◌, eqb, ltb}
+use Rattle.std.specs.Prelude.{ℕ, ◌+◌, ◌*◌, ◌/◌, ◌%◌, ◌^◌, cond, not, ◌&&◌, eqb, ltb, List, ◌++◌, codes, Option, Some, None}
+use Rattle.std.specs.Fmt.{decimal}
 use Rattle.instructions.specs.declared.Operation.{Operation}
 use Rattle.instructions.specs.declared.Operation.TheVariants.{Block, Loop, Repeat, Label, Jump, JumpUnless}
 use Rattle.instructions.specs.declared.Instruction.{Instruction}
-use Rattle.instructions.specs.declared.Unpacked.{Unpacked}
-use Rattle.instructions.specs.declared.Unpacked.TheVariants.{Is, Nothing}
+use Rattle.instructions.specs.declared.NotAnInstruction.{NotAnInstruction}
 use Rattle.instructions.specs.Forms.{loop_of, label_of, block, loop, rep, lb, jmp, njmp}
 
 -- from the lowest bit: the kind in 8 bits, the loop in 8, T in 16, the label in 32; 0 where one does not fit
@@ -46,5 +46,9 @@ decoded w =
     (njmp (w / 2 ^ 8 % 2 ^ 8) (w / 2 ^ 16 % 2 ^ 16) (w / 2 ^ 32))))))
 
 -- a word is an instruction where it is not 0 and that instruction's packing
-unfoldable pub unpacked : ℕ → Unpacked
-unpacked w = cond (not (eqb w 0) && eqb (packed (decoded w)) w) (Is (decoded w)) Nothing
+unfoldable pub unpacked : ℕ → Option Instruction
+unpacked w = cond (not (eqb w 0) && eqb (packed (decoded w)) w) (Some (decoded w)) None
+
+-- what is printed of a word that packs none
+abbrev pub not_an_instruction : NotAnInstruction → List ℕ
+not_an_instruction e = codes "no instruction has the word " ++ decimal e.0

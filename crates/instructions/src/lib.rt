@@ -1,14 +1,17 @@
-// Document 01's instructions, one word each in a listing.
+// The six instructions, one word each in a listing.
 #![tactic(auto)]
 
 pub mod listing;
 
-ghost use Rattle.std.specs.Prelude.{◌≡◌};
-ghost use Rattle.instructions.specs.Forms.{beside};
-ghost use Rattle.instructions.specs.Words.{packed, decoded, unpacked, word, block_word};
+ghost use Rattle.std.specs.Prelude.{◌≡◌, Some, ok_or};
+ghost use Rattle.instructions.specs.Words.{word, packed, decoded, unpacked, not_an_instruction};
+
+use std::error::Error;
+use std::fmt;
+use words::Parts;
 
 // What an instruction does; the loop and the label that it names stand beside it.
-#[derive(Clone, Copy)]
+#[derive(Clone, Copy, Debug, PartialEq, Eq)]
 pub enum Operation {
     // Play the block of these two numbers, k and l.
     Block(u32, u32),
@@ -25,18 +28,11 @@ pub enum Operation {
 }
 
 // A number that the operation does not use is 0.
-#[derive(Clone, Copy)]
+#[derive(Clone, Copy, Debug, PartialEq, Eq)]
 pub struct Instruction {
     pub operation: Operation,
     pub loop_number: u8,
     pub label_number: u32,
-}
-
-// What a word is: an instruction, or nothing.
-#[derive(Clone, Copy)]
-pub enum Unpacked {
-    Is(Instruction),
-    Nothing,
 }
 
 // The kind in 8 bits, the loop in 8, T in 16 and the label in 32.
@@ -47,89 +43,89 @@ fn join(kind: u8, lp: u8, t: u16, label: u32) -> u64
     parts + 4294967296 * (label as u64)
 }
 
-// A block's kind in 8 bits, and its two numbers in 28 each.
-fn join_block(k: u32, l: u32) -> u64
-    ensures { result ≡ block_word k l }
-{
-    if k >= 268435456 {
-        return 0;
+// A word that packs no instruction.
+#[derive(Clone, Copy, Debug, PartialEq, Eq)]
+pub struct NotAnInstruction(pub u64);
+
+impl fmt::Display for NotAnInstruction {
+    ghost output = { λ e. Some (not_an_instruction e) };
+
+    fn fmt<W: fmt::Write>(&self, f: &mut fmt::Formatter<W>) -> fmt::Result {
+        write!(f, "no instruction has the word {}", self.0)
     }
-    if l >= 268435456 {
-        return 0;
-    }
-    1 + 256 * (k as u64) + 68719476736 * (l as u64)
 }
+
+impl Error for NotAnInstruction {}
 
 // The instruction's word; 0 where a number does not fit or an unused one is not 0.
-#[tactic(auto, unfolding(crate::specs::Words::packed))]
-pub fn pack(i: Instruction) -> u64
-    ensures { result ≡ packed i }
-{
-    let operation = i.operation;
-    let lp = i.loop_number;
-    let label = i.label_number;
-    match operation {
-        Operation::Block(k, l) => {
-            if lp != 0 {
-                return 0;
+impl From<Instruction> for u64 {
+    ghost from_gives = { λ i w. w ≡ packed i };
+
+    #[tactic(auto, unfolding(crate::specs::Words::packed))]
+    fn from(i: Instruction) -> u64 {
+        let lp = i.loop_number;
+        let label = i.label_number;
+        match i.operation {
+            Operation::Block(k, l) if lp == 0 && label == 0 => {
+                u64::from(Parts {
+                    kind: 1,
+                    first: k,
+                    second: l,
+                })
             }
-            if label != 0 {
-                return 0;
-            }
-            join_block(k, l)
+            Operation::Loop if label == 0 => join(2, lp, 0, 0),
+            Operation::Repeat(t) if label == 0 => join(3, lp, t, 0),
+            Operation::Label if lp == 0 => join(4, 0, 0, label),
+            Operation::Jump(t) => join(5, lp, t, label),
+            Operation::JumpUnless(t) => join(6, lp, t, label),
+            _ => 0,
         }
-        Operation::Loop => if label == 0 { join(2, lp, 0, 0) } else { 0 },
-        Operation::Repeat(t) => if label == 0 { join(3, lp, t, 0) } else { 0 },
-        Operation::Label => if lp == 0 { join(4, 0, 0, label) } else { 0 },
-        Operation::Jump(t) => join(5, lp, t, label),
-        Operation::JumpUnless(t) => join(6, lp, t, label),
     }
 }
 
-// The operation beside its loop and label numbers.
-fn make(operation: Operation, loop_number: u8, label_number: u32) -> Instruction
-    ensures { result ≡ beside operation loop_number label_number }
-{
-    Instruction {
-        operation,
-        loop_number,
-        label_number,
+impl Instruction {
+    // The instruction that the word's kind and numbers make.
+    #[tactic(auto, unfolding(crate::specs::Words::decoded))]
+    pub fn decode(word: u64) -> Instruction
+        ensures { result ≡ decoded word }
+    {
+        let Parts {
+            kind,
+            first: k,
+            second: l,
+        } = Parts::from(word);
+        let lp = (word / 256 % 256) as u8;
+        let t = (word / 65536 % 65536) as u16;
+        let label = (word / 4294967296) as u32;
+        let (operation, loop_number, label_number) = match kind {
+            1 => (Operation::Block(k, l), 0, 0),
+            2 => (Operation::Loop, lp, 0),
+            3 => (Operation::Repeat(t), lp, 0),
+            4 => (Operation::Label, 0, label),
+            5 => (Operation::Jump(t), lp, label),
+            _ => (Operation::JumpUnless(t), lp, label),
+        };
+        Instruction {
+            operation,
+            loop_number,
+            label_number,
+        }
     }
 }
 
-// The instruction that the word's kind and numbers make.
-#[tactic(auto, unfolding(crate::specs::Words::decoded))]
-pub fn decode(word: u64) -> Instruction
-    ensures { result ≡ decoded word }
-{
-    let kind = word % 256;
-    let k = (word / 256 % 268435456) as u32;
-    let l = (word / 68719476736) as u32;
-    let lp = (word / 256 % 256) as u8;
-    let t = (word / 65536 % 65536) as u16;
-    let label = (word / 4294967296) as u32;
-    match kind {
-        1 => make(Operation::Block(k, l), 0, 0),
-        2 => make(Operation::Loop, lp, 0),
-        3 => make(Operation::Repeat(t), lp, 0),
-        4 => make(Operation::Label, 0, label),
-        5 => make(Operation::Jump(t), lp, label),
-        _ => make(Operation::JumpUnless(t), lp, label),
-    }
-}
+// A word is an instruction exactly when it is the packing of one.
+impl TryFrom<u64> for Instruction {
+    type Error = NotAnInstruction;
 
-// What the word is: an instruction exactly when it is the packing of one.
-#[tactic(auto, unfolding(crate::specs::Words::unpacked))]
-pub fn unpack(word: u64) -> Unpacked
-    ensures { result ≡ unpacked word }
-{
-    let i = decode(word);
-    if word == 0 {
-        return Unpacked::Nothing;
-    }
-    if pack(i) == word {
-        Unpacked::Is(i)
-    } else {
-        Unpacked::Nothing
+    ghost try_from_gives = { λ w i. i ≡ ok_or (unpacked w) (record { 0 = w }) };
+
+    #[tactic(auto, unfolding(crate::specs::Words::unpacked))]
+    fn try_from(word: u64) -> Result<Instruction, NotAnInstruction> {
+        let i = Instruction::decode(word);
+        if word != 0 && u64::from(i) == word {
+            Ok(i)
+        } else {
+            Err(NotAnInstruction(word))
+        }
     }
 }

@@ -18,7 +18,7 @@ use Rattle.machine.proofs.Runs.{run_halted, run_used, run_step, by_steps}
 -- ---- one operation
 -- what it plays and the room that it leaves are the room there was
 filled : (z room r : ℕ) (o : Operation) → room_behind room o ≡ some r → length (plays_at z o) + r ≡ room
-filled z zero r (Block k l) e = let x : ◌≡◌ {A = ℕ} 0 1 = cc in absurd (omega arith)
+filled z zero r (Block k l) e = cc
 filled z (suc room) r (Block k l) e = let x : room ≡ r = cc in omega arith
 filled z room r Loop e = let x : room ≡ r = cc in omega arith
 filled z room r (Repeat T) e = let x : room ≡ r = cc in omega arith
@@ -38,12 +38,12 @@ one_block z (JumpUnless T) = omega arith
 -- where there is no room for it, there is none at all
 no_room : (room : ℕ) (o : Operation) → room_behind room o ≡ none → room ≡ 0
 no_room zero (Block k l) e = refl
-no_room (suc room) (Block k l) e = let x : ◌≡◌ {A = ℕ} 0 1 = cc in absurd (omega arith)
-no_room room Loop e = let x : ◌≡◌ {A = ℕ} 0 1 = cc in absurd (omega arith)
-no_room room (Repeat T) e = let x : ◌≡◌ {A = ℕ} 0 1 = cc in absurd (omega arith)
-no_room room Label e = let x : ◌≡◌ {A = ℕ} 0 1 = cc in absurd (omega arith)
-no_room room (Jump T) e = let x : ◌≡◌ {A = ℕ} 0 1 = cc in absurd (omega arith)
-no_room room (JumpUnless T) e = let x : ◌≡◌ {A = ℕ} 0 1 = cc in absurd (omega arith)
+no_room (suc room) (Block k l) e = cc
+no_room room Loop e = cc
+no_room room (Repeat T) e = cc
+no_room room Label e = cc
+no_room room (Jump T) e = cc
+no_room room (JumpUnless T) e = cc
 
 -- where there is room for what it plays and s more, it leaves s
 leaves : (z room s : ℕ) (o : Operation) → length (plays_at z o) + s ≡ room → room_behind room o ≡ some s

@@ -29,8 +29,8 @@ module _ (listing : List Instruction) where
   stays_halted =
       by_steps listing (λ n room p r. r.stop ≡ halted → (m other : ℕ) → run listing m other r.now ≡ stopped halted r.now)
       (λ n room p e x m other. run_halted listing p m other e)
-      (λ room p i e x m other. let y : ◌≡◌ {A = ℕ} 0 1 = cc in absurd (omega arith))
-      (λ n room p i e f x m other. let y : ◌≡◌ {A = ℕ} 0 1 = cc in absurd (omega arith))
+      (λ room p i e x m other. cc)
+      (λ n room p i e f x m other. cc)
       (λ n room r p i e f h x m other. h x m other)
 
   -- one buffer: the second run goes on with the steps and the room that are left

@@ -1,7 +1,6 @@
 -- A position that fits its listing fits it after every run: the next place and the counts never become bad.
 -- Assumes nothing.
-use mathlib.Core.Path.{◌≡◌, refl, sym, subst, ◌∙◌}
-use mathlib.Core.Logic.{◌≢◌}
+use mathlib.Core.Path.{◌≡◌, refl}
 use mathlib.Core.Bool.{Bool, true, false, cond}
 use mathlib.Core.List.{List, [], ◌∷◌}
 use mathlib.Core.Option.{some}
@@ -10,13 +9,14 @@ use native.Mathlib.Omega.{arith}
 use lib.ListN.{length, get_or, set, get_elem?}
 use lib.Seq.{get_or-set_same, get_or-set_other, set_out}
 use lib.Dec.{eqb, ltb}
-use borrow.Author.Tests.{eqb-true, eqb-false, eq-eqb, ltb-true, ltb-false}
+use borrow.Author.Tests.{eq-eqb, ltb-true}
 use Rattle.instructions.specs.declared.Operation.{Operation}
 use Rattle.instructions.specs.declared.Operation.TheVariants.{Block, Loop, Repeat, Label, Jump, JumpUnless}
 use Rattle.instructions.specs.declared.Instruction.{Instruction}
 use Rattle.instructions.specs.Forms.{loop_of, label_of}
 use Rattle.machine.specs.declared.Position.{Position}
 use Rattle.machine.specs.Machine.{position, find, is_loop, is_label, loop_at, label_at, does, step, run}
+use Rattle.std.proofs.lemmas.Bool.{cases_Bool, cases_eq, cases_lt}
 use Rattle.machine.proofs.Runs.{by_steps}
 
 -- instruction i of the listing repeats loop L, with T
@@ -42,24 +42,16 @@ pub record Fits (listing : List Instruction) (p : Position) : Type 0 where
 find_most : (f : Instruction → Bool) (listing : List Instruction) → find f listing ≤ length listing
 unfolding find
 find_most f [] = omega arith
-find_most f (x ∷ xs) = go (f x) (find_most f xs)
-  where
-    go : (t : Bool) → find f xs ≤ length xs → cond t zero (suc (find f xs)) ≤ suc (length xs)
-    go true h = omega arith
-    go false h = omega arith
+find_most f (x ∷ xs) = let h = find_most f xs in grind (arith, cases_Bool (f x))
 
 find_there : (f : Instruction → Bool) (listing : List Instruction) (i : ℕ) (x : Instruction) → get_elem? listing i ≡ some x → f x ≡ true → find f listing < length listing
 unfolding find
-find_there f [] i x e t = let y : ◌≡◌ {A = ℕ} 0 1 = cc in absurd (omega arith)
+find_there f [] i x e t = cc
 find_there f (y ∷ ys) zero x e t = let same : y ≡ x = cc in rw (same, t) (omega arith)
-find_there f (y ∷ ys) (suc i) x e t = go (f y) (find_there f ys i x e t)
-  where
-    go : (b : Bool) → find f ys < length ys → cond b zero (suc (find f ys)) < suc (length ys)
-    go true h = omega arith
-    go false h = omega arith
+find_there f (y ∷ ys) (suc i) x e t = let h = find_there f ys i x e t in grind (arith, cases_Bool (f y))
 
 some_inside : (listing : List Instruction) (i : ℕ) (x : Instruction) → get_elem? listing i ≡ some x → i < length listing
-some_inside [] i x e = let y : ◌≡◌ {A = ℕ} 0 1 = cc in absurd (omega arith)
+some_inside [] i x e = cc
 some_inside (y ∷ ys) zero x e = omega arith
 some_inside (y ∷ ys) (suc i) x e = omega (arith, some_inside ys i x e)
 
@@ -68,28 +60,11 @@ module _ (listing : List Instruction) (sound : Sound listing) where
   stored : (p : Position) (next L v beat : ℕ) → Fits listing p → next ≤ length listing → loop_at listing L < length listing → ((i T : ℕ) → Repeats listing i L T → v ≤ T) → Fits listing (position next (set p.counts L v) beat)
   stored p next L v beat fits le marked most = record { inside = le; low = low; absent = absent }
     where
-      at : (M : ℕ) → M ≢ L → get_or (set p.counts L v) M 0 ≡ get_or p.counts M 0
-      at M ne = get_or-set_other p.counts L M v 0 ne
-
-      bounded : (T : ℕ) → v ≤ T → get_or p.counts L 0 ≤ T → get_or (set p.counts L v) L 0 ≤ T
-      bounded T a b = go (ltb L (length p.counts)) refl
-        where
-          go : (t : Bool) → ltb L (length p.counts) ≡ t → get_or (set p.counts L v) L 0 ≤ T
-          go true q = rw (get_or-set_same p.counts L v 0 (ltb-true _ _ q)) a
-          go false q = rw (set_out p.counts L v (ltb-false _ _ q)) b
-
       low : (i M T : ℕ) → Repeats listing i M T → get_or (set p.counts L v) M 0 ≤ T
-      low i M T r = go (eqb M L) refl
-        where
-          go : (t : Bool) → eqb M L ≡ t → get_or (set p.counts L v) M 0 ≤ T
-          go true q =
-              let same : M ≡ L = eqb-true M L q in
-              subst (λ (K : ℕ). get_or (set p.counts L v) K 0 ≤ T) (sym same)
-              (bounded T (most i T (subst (λ (K : ℕ). Repeats listing i K T) same r)) (subst (λ (K : ℕ). get_or p.counts K 0 ≤ T) same (fits.low i M T r)))
-          go false q = rw (at M (eqb-false M L q)) (fits.low i M T r)
+      low i M T r = let a = fits.low i M T r in grind (arith, cases_eq M L, cases_lt L (length p.counts), get_or-set_same {A = ℕ}, get_or-set_other {A = ℕ}, set_out {A = ℕ}, most i T)
 
       absent : (M : ℕ) → length listing ≤ loop_at listing M → get_or (set p.counts L v) M 0 ≡ 0
-      absent M out = at M (λ same. let h : loop_at listing M < length listing = subst (λ (K : ℕ). loop_at listing K < length listing) (sym same) marked in omega arith) ∙ fits.absent M out
+      absent M out = let a = fits.absent M out in grind (arith, cases_eq M L, get_or-set_other {A = ℕ})
 
   moved : (p : Position) (next beat : ℕ) → Fits listing p → next ≤ length listing → Fits listing (position next p.counts beat)
   moved p next beat fits le = record { inside = le; low = fits.low; absent = fits.absent }

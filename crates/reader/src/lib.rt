@@ -10,14 +10,14 @@ ghost use Rattle.reader.specs.Reader.{behind};
 use signs::Next;
 
 // A text and a place in it.
-#[derive(Clone, Copy)]
+#[derive(Clone, Copy, Debug)]
 pub struct Reader<'a> {
     pub text: &'a [u8],
     pub at: usize,
 }
 
 // What a reader hands out, and where it then stands.
-#[derive(Clone, Copy)]
+#[derive(Clone, Copy, Debug, PartialEq, Eq)]
 pub struct Handed {
     pub next: Next,
     pub at: usize,
@@ -28,9 +28,9 @@ fn place_behind(at: usize, next: Next) -> usize
     ensures { result ≡ behind at next }
 {
     match next {
-        Next::Found(_, end) => end,
-        Next::End => at,
-        Next::Refused(_) => at,
+        Ok(Some((_, end))) => end,
+        Ok(None) => at,
+        Err(_) => at,
     }
 }
 
@@ -45,28 +45,30 @@ fn hand_out(text: &[u8], at: usize) -> Handed
     }
 }
 
-// A reader at a place of a text.
-pub fn open<'a>(text: &'a [u8], at: usize) -> Reader<'a>
-    ensures { (result.text ≡ text.entry) × (result.at ≡ at) }
-{
-    Reader { text, at }
-}
+impl<'a> Reader<'a> {
+    // A reader at a place of a text.
+    pub fn open(text: &'a [u8], at: usize) -> Reader<'a>
+        ensures { (result.text ≡ text.entry) × (result.at ≡ at) }
+    {
+        Reader { text, at }
+    }
 
-// Hands out one sign and moves on.
-pub fn take_sign<'s, 'a>(r: &'s mut Reader<'a>) -> Next
-    ensures { (result ≡ next_sign document01 r.old.text.now r.old.at) × (r.new.text ≡ r.old.text) × (r.new.at ≡ behind r.old.at result) }
-{
-    let h = hand_out(r.text, r.at);
-    r.at = h.at;
-    h.next
+    // Hands out one sign and moves on.
+    pub fn take_sign(&mut self) -> Next
+        ensures { (result ≡ next_sign document01 self.old.text.now self.old.at) × (self.new.text ≡ self.old.text) × (self.new.at ≡ behind self.old.at result) }
+    {
+        let handed = hand_out(self.text, self.at);
+        self.at = handed.at;
+        handed.next
+    }
 }
 
 // What a reader at a place of a text hands out first, and where it then stands.
 pub fn sign_from(text: &[u8], at: usize) -> Handed
     ensures { (result.next ≡ next_sign document01 text.now at) × (result.at ≡ behind at result.next) }
 {
-    let mut reader = open(text, at);
-    let next = take_sign(&mut reader);
+    let mut reader = Reader::open(text, at);
+    let next = reader.take_sign();
     Handed {
         next,
         at: reader.at,

@@ -1,5 +1,6 @@
 -- Texts of document 01, what is read there, and how they are refused; by computation on the definitions.
 -- Assumes nothing.
+use Rattle.std.specs.Prelude.{codes}
 use mathlib.Core.Path.{◌≡◌, refl, ap}
 use mathlib.Core.List.{List, [], ◌∷◌, ◌++◌}
 use Prim.Native.Nat.{ℕ, suc, ◌≤◌}
@@ -11,7 +12,6 @@ use Rattle.refusals.specs.Said.{Said, said}
 use Rattle.signs.specs.declared.sign.Sign.TheVariants.{Block, Time, LeftRepeat, RightRepeat, Jump, ToCoda}
 use Rattle.signs.specs.declared.sign.Jumped.TheVariants.{Dc, DcCoda, Ds}
 use Rattle.signs.specs.declared.sign.Sign.{Sign}
-use Rattle.signs.specs.Bytes.{bytes}
 use Rattle.signs.specs.Text.{starts}
 use Rattle.signs.specs.Words.{said_sign}
 use Rattle.signs.specs.Numbers.{leading, decimal, numeral, pair_at}
@@ -38,27 +38,27 @@ bad t a b = record { text = t; at = a; says = said 2 (b ∷ []) }
 
 abbrev table : List Example
 table =
-    a_sign (bytes ":||:") 0 RightRepeat 2
-    ∷ a_sign (bytes ":||:") 2 LeftRepeat 4
-    ∷ a_sign (bytes "DC.Cod") 0 (Jump Dc) 2
-    ∷ bad (bytes "DC.Cod") 2 2
-    ∷ a_sign (bytes "DC.Coda") 0 (Jump DcCoda) 7
-    ∷ a_sign (bytes "DS.coda") 0 (Jump Ds) 2
-    ∷ bad (bytes "DS.coda") 2 2
-    ∷ a_sign (bytes "(b,0,  4)") 0 (Block 0 4) 9
-    ∷ bad (bytes "(b ,0,4)") 0 0
-    ∷ bad (bytes "(b,0,4 )") 0 0
-    ∷ bad (bytes "(b,\t0,4)") 0 0
-    ∷ bad (bytes "(b,0,\n4)") 0 0
-    ∷ bad (bytes "(b,00,4)") 0 0
-    ∷ bad (bytes "(b,1234567,4)") 0 0
-    ∷ a_sign (bytes "(b,123456,999999)") 0 (Block 123456 999999) 17
-    ∷ bad (bytes "  (") 0 2
-    ∷ a_sign (bytes " \t\n\r(ts,3,4)DC.Coda") 0 (Time 3 4) 12
-    ∷ a_sign (bytes "ToCodaCoda") 0 ToCoda 6
-    ∷ no_more (bytes " \t\n\r") 0
+    a_sign (codes ":||:") 0 RightRepeat 2
+    ∷ a_sign (codes ":||:") 2 LeftRepeat 4
+    ∷ a_sign (codes "DC.Cod") 0 (Jump Dc) 2
+    ∷ bad (codes "DC.Cod") 2 2
+    ∷ a_sign (codes "DC.Coda") 0 (Jump DcCoda) 7
+    ∷ a_sign (codes "DS.coda") 0 (Jump Ds) 2
+    ∷ bad (codes "DS.coda") 2 2
+    ∷ a_sign (codes "(b,0,  4)") 0 (Block 0 4) 9
+    ∷ bad (codes "(b ,0,4)") 0 0
+    ∷ bad (codes "(b,0,4 )") 0 0
+    ∷ bad (codes "(b,\t0,4)") 0 0
+    ∷ bad (codes "(b,0,\n4)") 0 0
+    ∷ bad (codes "(b,00,4)") 0 0
+    ∷ bad (codes "(b,1234567,4)") 0 0
+    ∷ a_sign (codes "(b,123456,999999)") 0 (Block 123456 999999) 17
+    ∷ bad (codes "  (") 0 2
+    ∷ a_sign (codes " \t\n\r(ts,3,4)DC.Coda") 0 (Time 3 4) 12
+    ∷ a_sign (codes "ToCodaCoda") 0 ToCoda 6
+    ∷ no_more (codes " \t\n\r") 0
     ∷ no_more [] 0
-    ∷ no_more (bytes "Fine") 9
+    ∷ no_more (codes "Fine") 9
     ∷ []
 
 abbrev All : List Example → Type 0
@@ -71,9 +71,9 @@ examples =
     (refl, (refl, (refl, (refl, (refl, (refl, (refl, (refl, (refl, (refl, (refl, (refl, (refl, (refl, (refl, (refl, (refl, (refl, (refl, (refl, (refl, tt)))))))))))))))))))))
 
 -- whole texts: how many signs they have, or 2, or 9 where there is room for one
-pub whole_texts : (said_reading document01 (reading_of document01 (bytes ":||:") 2) ≡ said 0 (2 ∷ []))
-    × (said_reading document01 (reading_of document01 (bytes ":||:") 1) ≡ said 9 (2 ∷ []))
-    × (said_reading document01 (reading_of document01 (bytes "DC.Cod") 8) ≡ said 2 (2 ∷ []))
+pub whole_texts : (said_reading document01 (reading_of document01 (codes ":||:") 2) ≡ said 0 (2 ∷ []))
+    × (said_reading document01 (reading_of document01 (codes ":||:") 1) ≡ said 9 (2 ∷ []))
+    × (said_reading document01 (reading_of document01 (codes "DC.Cod") 8) ≡ said 2 (2 ∷ []))
     × (said_reading document01 (reading_of document01 [] 0) ≡ said 0 (0 ∷ []))
 unfolding reading_of scanned scan_from coming longest spellings starts pair_at leading decimal numeral
 whole_texts = (refl, refl, refl, refl)

@@ -1,29 +1,26 @@
 -- The signs of a text, one step at a time: what the loop that reads them knows.
 -- Assumes nothing.
+use Rattle.std.specs.Prelude.{Err, None, Ok, Option, Some}
 use mathlib.Core.Bool.{Bool, true, false, cond}
 use mathlib.Core.Path.{◌≡◌, refl, sym, ap, ◌∙◌}
-use mathlib.Core.List.{List, [], ◌++◌, map}
+use mathlib.Core.List.{List, [], map}
 use Prim.Native.Nat.{ℕ, zero, suc, ◌+◌, ◌-◌, ◌≤◌, ◌<◌}
 use native.Mathlib.Nat.{not-suc-le-zero}
 use native.Mathlib.Numerals.{add-one}
 use native.Mathlib.Omega.{arith}
 use borrow.Author.Tests.{lt-ltb, le-ltb, ltb-false}
 use lib.Dec.{ltb}
-use lib.ListN.{length, take, drop, set, get_or, length-set, length-map}
-use lib.Seq.{sets, sets-eq, set_at, drop-cons, take-suc, take_at, append_snoc, length-take-le}
+use lib.ListN.{length, take, drop, set, length-set, length-map}
+use lib.Seq.{sets, sets-eq, take_at}
 use Rattle.refusals.specs.declared.Refusal.{Refusal}
 use Rattle.refusals.specs.declared.Refusal.TheVariants.{TextTooLong, Unreadable, TooManySigns, NoRoom}
 use Rattle.refusals.specs.Limits.{Limits}
 use Rattle.signs.specs.declared.sign.Sign.{Sign}
-use Rattle.signs.specs.declared.next.Next.{Next}
-use Rattle.signs.specs.declared.next.Next.TheVariants.{Found, End, Refused as NoNext}
 use Rattle.signs.specs.Words.{word_of}
 use Rattle.signs.specs.Next.{Coming, sign, nothing, unreadable, coming, answered}
 use Rattle.signs.proofs.Coming.{coming_reach}
-use Rattle.signs.proofs.Gaps.{clash}
-use Rattle.reading.specs.declared.Reading.{Reading}
-use Rattle.reading.specs.declared.Reading.TheVariants.{Signs, Refused}
-use Rattle.reading.specs.Reading.{onward, scan_from, scanned, signs_of, counted_by, counted, room_for, reading_of, said_reading, reading_said, buffer_by, buffer_of}
+use Rattle.signs.proofs.Gaps.{clash, same_read, same_place}
+use Rattle.reading.specs.Reading.{Reading, onward, scan_from, scanned, signs_of, counted_by, counted, room_for, reading_of, said_reading, reading_said, buffer_by, buffer_of}
 
 -- more than the bytes left is enough, and then it does not matter how much
 module _ (text : List ℕ) where
@@ -87,24 +84,25 @@ module _ (text words₀ words : List ℕ) (at n : ℕ) (k : ReadTo text words₀
       (omega (arith, k.sum, ap (λ x. length (map (λ p. p.the) x)) z), k.kept ∙ ap (λ x. sets words n (map word_of (map (λ p. p.the) x))) z)
 
   -- by what the next sign's answer is
-  pub at_found : (s : Sign) (e : ℕ) → answered (coming text at) ≡ Found s e → (at < e) × ReadTo text words₀ (set words n (word_of s)) e (n + 1)
+  pub at_found : (s : Sign) (e : ℕ) → answered (coming text at) ≡ Ok (Some (s, e)) → (at < e) × ReadTo text words₀ (set words n (word_of s)) e (n + 1)
   at_found s e a = go (coming text at) refl a
     where
-      go : (c : Coming) → coming text at ≡ c → answered c ≡ Found s e → (at < e) × ReadTo text words₀ (set words n (word_of s)) e (n + 1)
+      go : (c : Coming) → coming text at ≡ c → answered c ≡ Ok (Some (s, e)) → (at < e) × ReadTo text words₀ (set words n (word_of s)) e (n + 1)
       go nothing q a = clash (cc)
       go (unreadable b) q a = clash (cc)
       go (sign t b f) q a =
-          let u : coming text at ≡ sign s b e = q ∙ (cc) in
+          let m : ◌≡◌ {A = Option (Sign × ℕ)} (Some (t, f)) (Some (s, e)) = cc in
+          let u : coming text at ≡ sign s b e = q ∙ rw (same_read t s f e m, same_place t s f e m) refl in
           let r = coming_reach text at s b e u in
           (omega arith, one_more s b e u)
 
   abbrev Done : Reading → Type 0
   Done r = (r ≡ counted text) × (words ≡ sets words₀ 0 (map word_of (signs_of text)))
 
-  pub at_end : answered (coming text at) ≡ End → Done (Signs n)
+  pub at_end : answered (coming text at) ≡ Ok None → Done (Ok n)
   at_end a = go (coming text at) refl a
     where
-      go : (c : Coming) → coming text at ≡ c → answered c ≡ End → Done (Signs n)
+      go : (c : Coming) → coming text at ≡ c → answered c ≡ Ok None → Done (Ok n)
       go nothing q a =
           let u = step text at nothing q in
           let e = ended nothing q (ap (λ x. x.placed) u) in
@@ -112,10 +110,10 @@ module _ (text words₀ words : List ℕ) (at n : ℕ) (k : ReadTo text words₀
       go (unreadable b) q a = clash (cc)
       go (sign t b f) q a = clash (cc)
 
-  pub at_bad : (r : Refusal) → answered (coming text at) ≡ NoNext r → Done (Refused r)
+  pub at_bad : (r : Refusal) → answered (coming text at) ≡ Err r → Done (Err r)
   at_bad r a = go (coming text at) refl a
     where
-      go : (c : Coming) → coming text at ≡ c → answered c ≡ NoNext r → Done (Refused r)
+      go : (c : Coming) → coming text at ≡ c → answered c ≡ Err r → Done (Err r)
       go nothing q a = clash (cc)
       go (unreadable b) q a =
           let v : Unreadable b ≡ r = cc in
@@ -124,19 +122,7 @@ module _ (text words₀ words : List ℕ) (at n : ℕ) (k : ReadTo text words₀
           (sym (rw (k.stop, ap (λ x. x.stop) u, v)), sym e.1)
       go (sign t b f) q a = clash (cc)
 
--- what the arms of a `let else` know
-pub is_end : (n : Next) → ((s : Sign) (e : ℕ) → n ≡ Found s e → ⊥) → ((r : Refusal) → n ≡ NoNext r → ⊥) → n ≡ End
-is_end End o p = refl
-is_end (NoNext r) o p = absurd (p r refl)
-is_end (Found s e) o p = absurd (o s e refl)
-
--- the first i words copied to the front of a buffer, and one more
-pub copy_more : (ws out : List ℕ) (i : ℕ) → i < length ws → i < length out → set (take i ws ++ drop i out) i (get_or ws i 0) ≡ take (i + 1) ws ++ drop (i + 1) out
-copy_more ws out i hw ho =
-    rw (add-one i, drop-cons out i 0 ho, take-suc ws i 0 hw, append_snoc)
-    (set_at (take i ws) (get_or out i 0) (drop (suc i) out) (get_or ws i 0) i (length-take-le i ws (omega arith)))
-
-pub long_text : (l : Limits) (text : List ℕ) (room : ℕ) → l.bytes < length text → reading_of l text room ≡ Refused TextTooLong
+pub long_text : (l : Limits) (text : List ℕ) (room : ℕ) → l.bytes < length text → reading_of l text room ≡ Err TextTooLong
 unfolding reading_of
 long_text l text room h = rw (lt-ltb l.bytes (length text) h)
 
@@ -155,34 +141,34 @@ module _ (l : Limits) (text out : List ℕ) where
   by_count h k r e f = answers r (rw (le-ltb l.bytes (length text) h) (sym (ap (room_for l (length out)) e ∙ f)))
 
 -- the words of all signs, where there is room for them
-counted_size : (m n : ℕ) (c : Coming) → counted_by m c ≡ Signs n → m ≡ n
+counted_size : (m n : ℕ) (c : Coming) → counted_by m c ≡ Ok n → m ≡ n
 counted_size m n nothing e = cc
 counted_size m n (unreadable b) e = clash (cc)
 counted_size m n (sign s b f) e = cc
 
-pub first_words : (text zs : List ℕ) (n : ℕ) → counted text ≡ Signs n → n ≤ length zs → take n (sets zs 0 (map word_of (signs_of text))) ≡ map word_of (signs_of text)
+pub first_words : (text zs : List ℕ) (n : ℕ) → counted text ≡ Ok n → n ≤ length zs → take n (sets zs 0 (map word_of (signs_of text))) ≡ map word_of (signs_of text)
 first_words text zs n e h =
     let ws = map word_of (signs_of text) in
     let k : length ws ≡ n = length-map (signs_of text) word_of ∙ counted_size (length (signs_of text)) n (scanned text 0).stop e in
     rw (sets-eq ws zs 0 (omega arith)) (take_at ws (drop (0 + length ws) zs) n k)
 
 -- signs that are read fit the buffer
-pub fits_room : (l : Limits) (text : List ℕ) (room n : ℕ) → reading_of l text room ≡ Signs n → n ≤ room
+pub fits_room : (l : Limits) (text : List ℕ) (room n : ℕ) → reading_of l text room ≡ Ok n → n ≤ room
 unfolding reading_of
 fits_room l text room n e = long (ltb l.bytes (length text)) e
   where
-    short : (m : ℕ) (b : Bool) → ltb room m ≡ b → cond b (Refused (NoRoom m)) (Signs m) ≡ Signs n → n ≤ room
+    short : (m : ℕ) (b : Bool) → ltb room m ≡ b → cond b (Err (NoRoom m)) (Ok m) ≡ Ok n → n ≤ room
     short m true q e = clash (cc)
     short m false q e = let f : m ≡ n = cc in omega (arith, ltb-false room m q)
 
-    many : (m : ℕ) (b : Bool) → cond b (Refused TooManySigns) (cond (ltb room m) (Refused (NoRoom m)) (Signs m)) ≡ Signs n → n ≤ room
+    many : (m : ℕ) (b : Bool) → cond b (Err TooManySigns) (cond (ltb room m) (Err (NoRoom m)) (Ok m)) ≡ Ok n → n ≤ room
     many m true e = clash (cc)
     many m false e = short m (ltb room m) refl e
 
-    by : (k : Reading) → room_for l room k ≡ Signs n → n ≤ room
-    by (Refused r) e = clash (cc)
-    by (Signs m) e = many m (ltb l.signs m) e
+    by : (k : Reading) → room_for l room k ≡ Ok n → n ≤ room
+    by (Err r) e = clash (cc)
+    by (Ok m) e = many m (ltb l.signs m) e
 
-    long : (b : Bool) → cond b (Refused TextTooLong) (room_for l room (counted text)) ≡ Signs n → n ≤ room
+    long : (b : Bool) → cond b (Err TextTooLong) (room_for l room (counted text)) ≡ Ok n → n ≤ room
     long true e = clash (cc)
     long false e = by (counted text) e

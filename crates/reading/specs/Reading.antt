@@ -1,14 +1,13 @@
 -- All signs of a text, in order, with the refusals 1, 2, 3 and 9.
 -- Assumes nothing.
-use Rattle.std.specs.Prelude.{cond, List, [], ◌∷◌, ◌++◌, map, ℕ, zero, suc, ◌-◌, ltb, length, drop}
+use Rattle.std.specs.Prelude.{cond, List, [], ◌∷◌, ◌++◌, map, ℕ, zero, suc, ◌-◌, ltb, length, drop, Result, Ok, Err}
+use Rattle.refusals.specs.declared.Refusal.{Refusal}
 use Rattle.refusals.specs.declared.Refusal.TheVariants.{TextTooLong, Unreadable, TooManySigns, NoRoom}
 use Rattle.refusals.specs.Limits.{Limits}
 use Rattle.refusals.specs.Said.{Said, said, said_refusal}
 use Rattle.signs.specs.declared.sign.Sign.{Sign}
 use Rattle.signs.specs.Words.{word_of}
 use Rattle.signs.specs.Next.{Coming, sign, nothing, unreadable, coming}
-use Rattle.reading.specs.declared.Reading.{Reading}
-use Rattle.reading.specs.declared.Reading.TheVariants.{Signs, Refused}
 
 -- a sign with where it begins and ends
 pub record Placed : Type 0 where
@@ -39,36 +38,40 @@ scanned text at = scan_from (suc (length text - at)) text at
 abbrev pub signs_of : List ℕ → List Sign
 signs_of text = map (λ p. p.the) (scanned text 0).placed
 
+-- what is answered: how many signs there are, or a refusal
+abbrev pub Reading : Type 0
+Reading = Result ℕ Refusal
+
 -- how many there are, or 2 where one can't be read; no sign comes after the last
 abbrev pub counted_by : ℕ → Coming → Reading
-counted_by n nothing = Signs n
-counted_by n (sign s b e) = Signs n
-counted_by n (unreadable b) = Refused (Unreadable b)
+counted_by n nothing = Ok n
+counted_by n (sign s b e) = Ok n
+counted_by n (unreadable b) = Err (Unreadable b)
 
 abbrev pub counted : List ℕ → Reading
 counted text = counted_by (length (signs_of text)) (scanned text 0).stop
 
 -- 3 where they are too many, 9 where the room is too small
 abbrev pub room_for : Limits → ℕ → Reading → Reading
-room_for l room (Refused r) = Refused r
-room_for l room (Signs n) = cond (ltb l.signs n) (Refused TooManySigns) (cond (ltb room n) (Refused (NoRoom n)) (Signs n))
+room_for l room (Err r) = Err r
+room_for l room (Ok n) = cond (ltb l.signs n) (Err TooManySigns) (cond (ltb room n) (Err (NoRoom n)) (Ok n))
 
 -- the answer for a text and a buffer's length, 1 tested first
 unfoldable pub reading_of : Limits → List ℕ → ℕ → Reading
-reading_of l text room = cond (ltb l.bytes (length text)) (Refused TextTooLong) (room_for l room (counted text))
+reading_of l text room = cond (ltb l.bytes (length text)) (Err TextTooLong) (room_for l room (counted text))
 
 -- the words in front of the buffer's old content, which a refusal leaves as it was
 abbrev pub buffer_by : List ℕ → List ℕ → Reading → List ℕ
-buffer_by words out (Refused r) = out
-buffer_by words out (Signs n) = words ++ drop n out
+buffer_by words out (Err r) = out
+buffer_by words out (Ok n) = words ++ drop n out
 
 unfoldable pub buffer_of : Limits → List ℕ → List ℕ → List ℕ
 buffer_of l text out = buffer_by (map word_of (signs_of text)) out (reading_of l text (length out))
 
 -- document 01's number and values for each answer: of signs how many there are
 abbrev pub said_reading : Limits → Reading → Said
-said_reading l (Signs n) = said 0 (n ∷ [])
-said_reading l (Refused r) = said_refusal l r
+said_reading l (Ok n) = said 0 (n ∷ [])
+said_reading l (Err r) = said_refusal l r
 
 -- the same for a text and a buffer's length
 abbrev pub reading_said : Limits → List ℕ → ℕ → Said

@@ -2,33 +2,26 @@
 
 #![tactic(auto)]
 
-ghost use Rattle.std.specs.Prelude.{◌≡◌, map, ◌++◌, ◌≤◌, length, take, drop, set};
+ghost use Rattle.std.specs.Prelude.{◌≡◌, map, ◌≤◌, length, set};
 ghost use Rattle.std.proofs.lemmas.List.Edits.{sets};
 ghost use Rattle.refusals.specs.Limits.{document01};
 ghost use Rattle.signs.specs.Words.{word_of};
 ghost use Rattle.reading.specs.Reading.{signs_of, counted, reading_of, said_reading, reading_said, buffer_of};
 
 use refusals::{Refusal, SIGNS};
-use signs::Next;
+use signs::Sign;
 
-// How many signs are read, or a refusal.
-#[derive(Clone, Copy)]
-pub enum Reading {
-    Signs(usize),
-    Refused(Refusal),
-}
-
-// Puts a word at a place, if there is room.
-fn put(words: &mut [u64], n: usize, word: u64)
-    ensures { words.new ≡ set words.old n word }
+// Keeps the word of sign n, if there is room.
+fn keep(words: &mut [u64], n: usize, sign: Sign)
+    ensures { words.new ≡ set words.old n (word_of sign) }
 {
     if n < words.len() {
-        words[n] = word;
+        words[n] = u64::from(sign);
     }
 }
 
 // How many signs there are, however many, with the words of those for which there is room.
-fn scan(text: &[u8], words: &mut [u64]) -> Reading
+fn scan(text: &[u8], words: &mut [u64]) -> Result<usize, Refusal>
     requires { length text.now ≤ document01.bytes }
     ensures count { result ≡ counted text.now }
     ensures kept { words.new ≡ sets words.old 0 (map word_of (signs_of text.now)) }
@@ -36,52 +29,33 @@ fn scan(text: &[u8], words: &mut [u64]) -> Reading
     let mut at: usize = 0;
     let mut n: usize = 0;
     loop {
-        let next = signs::next_sign(text, at);
-        let Next::Found(sign, end) = next else {
-            let Next::Refused(refusal) = next else {
-                return Reading::Signs(n);
-            };
-            return Reading::Refused(refusal);
+        let Some((sign, end)) = signs::next_sign(text, at)? else {
+            return Ok(n);
         };
-        put(words, n, signs::pack(sign));
+        keep(words, n, sign);
         at = end;
         n += 1;
     }
 }
 
-// Copies the first n words to the front of a buffer.
-fn copy(words: &[u64], n: usize, out: &mut [u64])
-    requires { (n ≤ length words.now) × (n ≤ length out.old) }
-    ensures { out.new ≡ take n words.now ++ drop n out.old }
-{
-    let mut i: usize = 0;
-    while i < n {
-        out[i] = words[i];
-        i += 1;
-    }
-}
-
-// Reads all signs of a text into a buffer, which a refusal leaves as it was.
+// Reads all signs of a text into a buffer, which a refusal leaves as it was; answers how many there are.
 #[tactic(auto, using(std::proofs::lemmas::Bool::Decides::nat_tests), unfolding(crate::specs::Reading::reading_of, crate::specs::Reading::buffer_of))]
-pub fn read_signs(text: &[u8], out: &mut [u64]) -> Reading
+pub fn read_signs(text: &[u8], out: &mut [u64]) -> Result<usize, Refusal>
     ensures answer { result ≡ reading_of document01 text.now (length out.old) }
     ensures numbers { said_reading document01 result ≡ reading_said document01 text.now (length out.old) }
     ensures buffer { out.new ≡ buffer_of document01 text.now out.old }
 {
     if refusals::BYTES < text.len() {
-        return Reading::Refused(Refusal::TextTooLong);
+        return Err(Refusal::TextTooLong);
     }
     let mut words = [0u64; SIGNS];
-    let scanned = scan(text, &mut words);
-    let Reading::Signs(n) = scanned else {
-        return scanned;
-    };
+    let n = scan(text, &mut words)?;
     if SIGNS < n {
-        return Reading::Refused(Refusal::TooManySigns);
+        return Err(Refusal::TooManySigns);
     }
     if out.len() < n {
-        return Reading::Refused(Refusal::NoRoom(n as u64));
+        return Err(Refusal::NoRoom(n as u64));
     }
-    copy(&words, n, out);
-    Reading::Signs(n)
+    out[..n].copy_from_slice(&words[..n]);
+    Ok(n)
 }

@@ -4,15 +4,18 @@
 
 mod limits;
 
-ghost use Rattle.std.specs.Prelude.{◌≡◌};
+ghost use Rattle.std.specs.Prelude.{◌≡◌, Some};
 ghost use Rattle.refusals.specs.Limits.{document01};
 ghost use Rattle.refusals.specs.Refusals.{number_of, place_of};
+ghost use Rattle.refusals.specs.Printed.{printed};
 
 pub use limits::{BEAT, BLOCKS, BYTES, DEPTH, INSTRUCTIONS, LABELS, LOOPS, NUMBER, SIGNS, TIMES};
+use std::error::Error;
+use std::fmt;
 
 // A case for each way to be refused. Two have the number 5: what is wrong with a score's number and what the writer can't spell are
 // mended at different desks; a text, a list or a buffer that is too long or too short is mended in the same way whoever says so.
-#[derive(Clone, Copy)]
+#[derive(Clone, Copy, Debug, PartialEq, Eq)]
 pub enum Refusal {
     // The text is too long.
     TextTooLong,
@@ -42,44 +45,58 @@ pub enum Refusal {
     Unwritable(u64),
 }
 
-// The refusal's number in document 01.
-pub fn number(r: Refusal) -> u8
-    ensures { result ≡ number_of r }
-{
-    match r {
-        Refusal::TextTooLong => 1,
-        Refusal::Unreadable(_) => 2,
-        Refusal::TooManySigns => 3,
-        Refusal::NoScore(_) => 4,
-        Refusal::BadNumber(_) => 5,
-        Refusal::TooDeep(_) => 6,
-        Refusal::TooManyLoops => 7,
-        Refusal::TooManyPlayed => 8,
-        Refusal::NoRoom(_) => 9,
-        Refusal::PastTotal(_) => 10,
-        Refusal::BadListing(_) => 11,
-        Refusal::BadPosition => 12,
-        Refusal::Unwritable(_) => 5,
+impl Refusal {
+    // The refusal's number in document 01.
+    pub fn number(self) -> u8
+        ensures { result ≡ number_of self }
+    {
+        match self {
+            Refusal::TextTooLong => 1,
+            Refusal::Unreadable(_) => 2,
+            Refusal::TooManySigns => 3,
+            Refusal::NoScore(_) => 4,
+            Refusal::BadNumber(_) => 5,
+            Refusal::TooDeep(_) => 6,
+            Refusal::TooManyLoops => 7,
+            Refusal::TooManyPlayed => 8,
+            Refusal::NoRoom(_) => 9,
+            Refusal::PastTotal(_) => 10,
+            Refusal::BadListing(_) => 11,
+            Refusal::BadPosition => 12,
+            Refusal::Unwritable(_) => 5,
+        }
+    }
+
+    // The refusal's place in document 01.
+    pub fn place(self) -> u64
+        ensures { result ≡ place_of document01 self }
+    {
+        match self {
+            Refusal::TextTooLong => BYTES as u64,
+            Refusal::Unreadable(byte) => byte,
+            Refusal::TooManySigns => SIGNS as u64,
+            Refusal::NoScore(sign) => sign,
+            Refusal::BadNumber(sign) => sign,
+            Refusal::TooDeep(sign) => sign,
+            Refusal::TooManyLoops => LOOPS as u64,
+            Refusal::TooManyPlayed => BLOCKS as u64,
+            Refusal::NoRoom(needed) => needed,
+            Refusal::PastTotal(total) => total,
+            Refusal::BadListing(instruction) => instruction,
+            Refusal::BadPosition => 0,
+            Refusal::Unwritable(sign) => sign,
+        }
     }
 }
 
-// The refusal's place in document 01.
-pub fn place(r: Refusal) -> u64
-    ensures { result ≡ place_of document01 r }
-{
-    match r {
-        Refusal::TextTooLong => BYTES as u64,
-        Refusal::Unreadable(byte) => byte,
-        Refusal::TooManySigns => SIGNS as u64,
-        Refusal::NoScore(sign) => sign,
-        Refusal::BadNumber(sign) => sign,
-        Refusal::TooDeep(sign) => sign,
-        Refusal::TooManyLoops => LOOPS as u64,
-        Refusal::TooManyPlayed => BLOCKS as u64,
-        Refusal::NoRoom(needed) => needed,
-        Refusal::PastTotal(total) => total,
-        Refusal::BadListing(instruction) => instruction,
-        Refusal::BadPosition => 0,
-        Refusal::Unwritable(sign) => sign,
+impl fmt::Display for Refusal {
+    ghost output = { λ r. Some (printed document01 r) };
+
+    fn fmt<W: fmt::Write>(&self, f: &mut fmt::Formatter<W>) -> fmt::Result {
+        let number = self.number();
+        let place = self.place();
+        write!(f, "refused {number} {place}")
     }
 }
+
+impl Error for Refusal {}

@@ -7,8 +7,8 @@ use Rattle.signs.specs.declared.sign.Jumped.{Jumped}
 use Rattle.signs.specs.declared.sign.Jumped.TheVariants.{Dc, DcCoda, DcFine, Ds, DsCoda, DsFine}
 use Rattle.signs.specs.declared.sign.Sign.{Sign}
 use Rattle.signs.specs.declared.sign.Sign.TheVariants.{Block, Time, LeftRepeat, RightRepeat, OpenEnding, CloseEnding, Jump, Segno, Coda, ToCoda, Fine}
-use Rattle.signs.specs.declared.word.Unpacked.{Unpacked}
-use Rattle.signs.specs.declared.word.Unpacked.TheVariants.{Packed, Nothing}
+use Rattle.signs.specs.Words.{Unpacked}
+use Rattle.std.specs.Prelude.{Some as Packed, None as Nothing}
 use Rattle.score.specs.Trees.{Leaf, block}
 use Rattle.score.specs.Spelling.{leaf_sign}
 

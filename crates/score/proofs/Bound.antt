@@ -11,7 +11,7 @@ use Rattle.signs.specs.declared.sign.Sign.{Sign}
 use Rattle.score.specs.Trees.{Leaf, Run, nil, ◌▸◌, Item, leaf, repeat, group, Ends, no_more, ◌then◌}
 use Rattle.score.specs.declared.Shape.{Shape}
 use Rattle.score.specs.declared.Shape.TheVariants.{Straight, DaCapo, DalSegno, DaCapoFine, DalSegnoFine, DaCapoCoda, DalSegnoCoda}
-use Rattle.score.specs.declared.Time.{Time}
+use Rattle.score.specs.Times.{Time}
 use Rattle.score.specs.Shapes.{Score, score}
 use Rattle.score.specs.Spelling.{left_signs, run_signs, item_signs, ends_signs, signs_of}
 use Rattle.score.specs.Readings.{Some, inside, start_after, Good, GoodItem, GoodEnds, Valid}

@@ -8,7 +8,7 @@ use lib.ListN.{length}
 use Rattle.score.specs.Trees.{Leaf, Run, nil, ◌▸◌, Item, leaf, repeat, group, Ends, no_more, ◌then◌}
 use Rattle.score.specs.declared.Shape.{Shape}
 use Rattle.score.specs.declared.Shape.TheVariants.{Straight, DaCapo, DalSegno, DaCapoFine, DalSegnoFine, DaCapoCoda, DalSegnoCoda}
-use Rattle.score.specs.declared.Time.{Time}
+use Rattle.score.specs.Times.{Time}
 use Rattle.score.specs.Shapes.{Letter, letter_of, Turn, letters_of, table, Score, score, run_of}
 use Rattle.score.specs.Played.{run_plays, item_plays, ends_play, turns_play, plays, beats}
 use Rattle.score.specs.Steps.{count}

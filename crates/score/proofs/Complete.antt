@@ -10,8 +10,8 @@ use Rattle.signs.specs.declared.sign.Sign.TheVariants.{Jump, Segno, Coda, ToCoda
 use Rattle.score.specs.Trees.{block, Left, written, lacking, Run, nil, ◌▸◌, Item, leaf, repeat, group, Ends, no_more, ◌then◌}
 use Rattle.score.specs.declared.Shape.{Shape}
 use Rattle.score.specs.declared.Shape.TheVariants.{Straight, DaCapo, DalSegno, DaCapoFine, DalSegnoFine, DaCapoCoda, DalSegnoCoda}
-use Rattle.score.specs.declared.Time.{Time}
-use Rattle.score.specs.declared.Time.TheVariants.{Untimed, Timed}
+use Rattle.score.specs.Times.{Time}
+use Rattle.std.specs.Prelude.{None as Untimed, Some as Timed}
 use Rattle.score.specs.Shapes.{Score, score, table}
 use Rattle.score.specs.Spelling.{left_signs, run_signs, item_signs, ends_signs, spelled, signs_of}
 use Rattle.score.specs.Readings.{Some, SomeEnds, May, inside, start_after, ends_closing_group, Good, GoodItem, GoodEnds, Valid}
@@ -273,4 +273,4 @@ module _ (implied : Bool) where
 
   pub reads_all : (t : Score) → Valid implied t → run start (kinds (signs_of t)) ≡ some t
   reads_all (score Untimed h a b c d) g = shape_reads Untimed h a b c d g
-  reads_all (score (Timed m n) h a b c d) g = shape_reads (Timed m n) h a b c d g
+  reads_all (score (Timed (m, n)) h a b c d) g = shape_reads (Timed (m, n)) h a b c d g

@@ -6,8 +6,8 @@ use mathlib.Core.List.{List, [], ◌∷◌}
 use Prim.Native.Nat.{ℕ, suc}
 use Rattle.score.specs.Trees.{Left, written, lacking, Run, nil, ◌▸◌, leaf, repeat, group, Ends, no_more, ◌then◌}
 use Rattle.score.specs.declared.Shape.TheVariants.{Straight, DaCapo, DalSegno, DaCapoFine, DalSegnoFine, DaCapoCoda, DalSegnoCoda}
-use Rattle.score.specs.declared.Time.{Time}
-use Rattle.score.specs.declared.Time.TheVariants.{Untimed, Timed}
+use Rattle.score.specs.Times.{Time}
+use Rattle.std.specs.Prelude.{None as Untimed, Some as Timed}
 use Rattle.score.specs.Shapes.{Score, score}
 use Rattle.score.specs.Readings.{Answer, reading, refused}
 use Rattle.score.proofs.Alphabet.{Mark, to_dc, to_dc_coda, to_dc_fine, to_ds, to_ds_coda, to_ds_fine, at_segno, at_coda, at_to_coda, at_fine, Mark-discrete, Kind, plays, time, opens, closes, left, right, mark, strange}
@@ -79,8 +79,8 @@ on_closes implied K (b ▸ group o m es e) = some (sep K o b m es e)
 
 -- a time sign stands at the very start
 abbrev pub on_time_part : ℕ → ℕ → Part → Option State
-on_time_part m n (in_a Untimed) = some (at (bot (in_a (Timed m n))) nil)
-on_time_part m n (in_a (Timed k l)) = none
+on_time_part m n (in_a Untimed) = some (at (bot (in_a (Timed (m, n)))) nil)
+on_time_part m n (in_a (Timed (k, l))) = none
 on_time_part m n (later p) = none
 
 abbrev pub on_time : ℕ → ℕ → Stack → Run → Option State

@@ -8,7 +8,7 @@ use native.Mathlib.Omega.{arith}
 use native.Mathlib.Decide.{dec_lt}
 use lib.ListN.{take, drop, take-append-drop}
 use lib.Seq.{take-take}
-use Rattle.signs.specs.declared.word.Unpacked.{Unpacked}
+use Rattle.signs.specs.Words.{Unpacked}
 use Rattle.score.specs.Readings.{Answer, reading, refused, Refused, Right}
 use Rattle.score.proofs.Viable.{cut}
 

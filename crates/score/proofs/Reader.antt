@@ -5,10 +5,10 @@ use mathlib.Core.Option.{Option, none, some}
 use mathlib.Core.List.{List, [], ◌∷◌, map}
 use Prim.Native.Nat.{ℕ, zero, suc, ◌+◌, ◌-◌}
 use lib.ListN.{length}
-use Rattle.signs.specs.declared.word.Unpacked.{Unpacked}
+use Rattle.signs.specs.Words.{Unpacked}
 use Rattle.score.specs.Trees.{Left, written, lacking, Run, nil, ◌▸◌, Item, leaf, repeat, group, Ends, no_more, ◌then◌}
-use Rattle.score.specs.declared.Time.{Time}
-use Rattle.score.specs.declared.Time.TheVariants.{Untimed, Timed}
+use Rattle.score.specs.Times.{Time}
+use Rattle.std.specs.Prelude.{None as Untimed, Some as Timed}
 use Rattle.score.specs.Shapes.{Score}
 use Rattle.score.specs.Readings.{is_group, Answer, reading, refused}
 use Rattle.score.proofs.Alphabet.{Kind, plays, time, opens, closes, left, right, mark, strange, kind_of}
@@ -233,7 +233,7 @@ read_start implied t (strange ∷ l) = stop (strange ∷ l)
 abbrev pub read_score : Bool → List Kind → Fin
 read_score implied [] = read_start implied Untimed []
 read_score implied (plays q ∷ l) = read_start implied Untimed (plays q ∷ l)
-read_score implied (time x y ∷ l) = read_start implied (Timed x y) l
+read_score implied (time x y ∷ l) = read_start implied (Timed (x, y)) l
 read_score implied (opens ∷ l) = read_start implied Untimed (opens ∷ l)
 read_score implied (closes ∷ l) = read_start implied Untimed (closes ∷ l)
 read_score implied (left ∷ l) = read_start implied Untimed (left ∷ l)

@@ -8,10 +8,10 @@ use Prim.Native.Nat.{ℕ, zero, suc, ◌+◌, ◌-◌, ◌≤◌, ◌<◌}
 use native.Mathlib.Omega.{arith}
 use native.Mathlib.Nat.{le_refl, le_trans}
 use lib.ListN.{length}
-use Rattle.signs.specs.declared.word.Unpacked.{Unpacked}
+use Rattle.signs.specs.Words.{Unpacked}
 use Rattle.score.specs.Trees.{written, lacking, Run, nil, ◌▸◌, Item, leaf, repeat, no_more}
-use Rattle.score.specs.declared.Time.{Time}
-use Rattle.score.specs.declared.Time.TheVariants.{Untimed, Timed}
+use Rattle.score.specs.Times.{Time}
+use Rattle.std.specs.Prelude.{None as Untimed, Some as Timed}
 use Rattle.score.specs.Shapes.{Score}
 use Rattle.score.specs.Readings.{Some, start_after, is_group, ends_in_group, closes_group, ends_closing_group, Good, GoodItem, Answer, reading, refused, Right}
 use Rattle.score.proofs.Alphabet.{Mark, Mark-discrete, Kind, plays, time, opens, closes, left, right as right_end, mark, strange, kind_of}
@@ -84,7 +84,7 @@ abbrev Timely : Time → List Kind → Type 0
 Timely t [] = Unit {0}
 Timely t (plays x ∷ l) = Unit {0}
 Timely Untimed (time x y ∷ l) = ⊥
-Timely (Timed m n) (time x y ∷ l) = Unit {0}
+Timely (Timed (m, n)) (time x y ∷ l) = Unit {0}
 Timely t (opens ∷ l) = Unit {0}
 Timely t (closes ∷ l) = Unit {0}
 Timely t (left ∷ l) = Unit {0}
@@ -92,7 +92,7 @@ Timely t (right_end ∷ l) = Unit {0}
 Timely t (mark j ∷ l) = Unit {0}
 Timely t (strange ∷ l) = Unit {0}
 
-timely : (m n : ℕ) (l : List Kind) → Timely (Timed m n) l
+timely : (m n : ℕ) (l : List Kind) → Timely (Timed (m, n)) l
 timely m n [] = tt
 timely m n (plays x ∷ l) = tt
 timely m n (time x y ∷ l) = tt
@@ -265,7 +265,7 @@ module _ (implied : Bool) where
   start_ok t [] h = refl
   start_ok t (plays x ∷ l) h = from_first t (leaf x) l tt (enter_none l)
   start_ok Untimed (time x y ∷ l) h = absurd h
-  start_ok (Timed m n) (time x y ∷ l) h = refl
+  start_ok (Timed (m, n)) (time x y ∷ l) h = refl
   start_ok t (opens ∷ l) h = start_item_ok t l (read_group (fuel l) l) (read_group_ok implied (fuel l) l (omega arith))
   start_ok t (closes ∷ l) h = refl
   start_ok t (left ∷ l) h = refl
@@ -276,7 +276,7 @@ module _ (implied : Bool) where
   read_score_ok : (l : List Kind) → read_score implied l ≡ runs implied start l
   read_score_ok [] = refl
   read_score_ok (plays x ∷ l) = start_ok Untimed (plays x ∷ l) tt
-  read_score_ok (time x y ∷ l) = start_ok (Timed x y) l (timely x y l)
+  read_score_ok (time x y ∷ l) = start_ok (Timed (x, y)) l (timely x y l)
   read_score_ok (opens ∷ l) = start_ok Untimed (opens ∷ l) tt
   read_score_ok (closes ∷ l) = refl
   read_score_ok (left ∷ l) = refl

@@ -9,8 +9,8 @@ use native.Mathlib.Omega.{arith}
 use native.Mathlib.Nat.{le_of_suc-le-suc, zero-add}
 use lib.ListN.{length, take}
 use Rattle.signs.specs.declared.sign.Sign.{Sign}
-use Rattle.signs.specs.declared.word.Unpacked.{Unpacked}
-use Rattle.signs.specs.declared.word.Unpacked.TheVariants.{Packed, Nothing}
+use Rattle.signs.specs.Words.{Unpacked}
+use Rattle.std.specs.Prelude.{Some as Packed, None as Nothing}
 use Rattle.score.specs.Trees.{Run, ◌▸◌, group, no_more, ◌then◌}
 use Rattle.score.specs.Shapes.{Score}
 use Rattle.score.specs.Spelling.{signs_of}

@@ -3,7 +3,7 @@
 use mathlib.Core.Path.{◌≡◌, refl}
 use mathlib.Core.Bool.{true}
 use mathlib.Core.List.{List, [], ◌∷◌, map}
-use Rattle.signs.specs.declared.word.Unpacked.TheVariants.{Packed}
+use Rattle.std.specs.Prelude.{Some as Packed}
 use Rattle.score.specs.Readings.{Answer}
 use Rattle.score.specs.Scores.{say, Row, rows, Hold}
 use Rattle.score.proofs.Reader.{read}

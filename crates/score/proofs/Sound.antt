@@ -10,8 +10,8 @@ use Rattle.signs.specs.declared.sign.Sign.{Sign}
 use Rattle.signs.specs.declared.sign.Sign.TheVariants.{LeftRepeat, RightRepeat, OpenEnding, CloseEnding, Jump, Segno, Coda, ToCoda, Fine}
 use Rattle.signs.specs.declared.sign.Sign.TheVariants.{Time as TimeSign}
 use Rattle.score.specs.Trees.{Left, Run, nil, ◌▸◌, leaf, repeat, group, Ends, no_more, ◌then◌}
-use Rattle.score.specs.declared.Time.{Time}
-use Rattle.score.specs.declared.Time.TheVariants.{Untimed, Timed}
+use Rattle.score.specs.Times.{Time}
+use Rattle.std.specs.Prelude.{None as Untimed, Some as Timed}
 use Rattle.score.specs.Shapes.{Score}
 use Rattle.score.specs.Spelling.{left_signs, run_signs, ends_signs, time_signs, signs_of}
 use Rattle.score.specs.Readings.{Some, May, inside, start_after, ends_in_group, ends_closing_group, Good, GoodEnds, Valid}
@@ -164,7 +164,7 @@ module _ (implied : Bool) where
 
   time_ok : (m n : ℕ) (K : Stack) (r : Run) → OkStack implied K → All (Has implied (stack_signs K ++ (run_signs r ++ (TimeSign m n ∷ [])))) (on_time m n K r)
   time_ok m n (bot (in_a Untimed)) nil c = (refl, (tt, tt, refl))
-  time_ok m n (bot (in_a (Timed k l))) nil c = tt
+  time_ok m n (bot (in_a (Timed (k, l)))) nil c = tt
   time_ok m n (bot (later p)) nil c = tt
   time_ok m n (bot p) (r ▸ i) c = tt
   time_ok m n (in_rep b K) r c = tt

@@ -6,8 +6,8 @@ use mathlib.Core.List.{List, [], ◌∷◌, ◌++◌, append_assoc, append-nil, 
 use Rattle.signs.specs.declared.sign.Jumped.TheVariants.{DcCoda, DcFine, Ds, DsCoda, DsFine}
 use Rattle.signs.specs.declared.sign.Sign.{Sign}
 use Rattle.signs.specs.declared.sign.Sign.TheVariants.{RightRepeat, OpenEnding, CloseEnding, Jump, Coda}
-use Rattle.signs.specs.declared.word.Unpacked.{Unpacked}
-use Rattle.signs.specs.declared.word.Unpacked.TheVariants.{Packed}
+use Rattle.signs.specs.Words.{Unpacked}
+use Rattle.std.specs.Prelude.{Some as Packed}
 use Rattle.score.specs.Trees.{block, Left, written, Run, nil, ◌▸◌, leaf, repeat, group, Ends, no_more, ◌then◌}
 use Rattle.score.specs.declared.Shape.TheVariants.{Straight, DalSegno, DaCapoFine, DalSegnoFine, DaCapoCoda, DalSegnoCoda}
 use Rattle.score.specs.Shapes.{Score, score}

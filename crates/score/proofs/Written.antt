@@ -9,7 +9,7 @@ use Rattle.signs.specs.declared.sign.Sign.TheVariants.{Block, Time, LeftRepeat, 
 use Rattle.score.specs.Trees.{block, Left, written, lacking, Run, nil, ◌▸◌, Item, leaf, repeat, group, Ends, no_more, ◌then◌}
 use Rattle.score.specs.declared.Shape.{Shape}
 use Rattle.score.specs.declared.Shape.TheVariants.{Straight, DaCapo, DalSegno, DaCapoFine, DalSegnoFine, DaCapoCoda, DalSegnoCoda}
-use Rattle.score.specs.declared.Time.TheVariants.{Untimed, Timed}
+use Rattle.std.specs.Prelude.{None as Untimed, Some as Timed}
 use Rattle.score.specs.Shapes.{table, Score, score, time_of, untimed_of}
 use Rattle.score.specs.Spelling.{left_signs, run_signs, item_signs, ends_signs, time_signs, signs_of, spelled}
 use Rattle.score.specs.Readings.{Valid}
@@ -41,7 +41,7 @@ left_leaves lacking = refl
 
 time_leaves : (t : _) → leaves (time_signs t) ≡ []
 time_leaves Untimed = refl
-time_leaves (Timed m n) = refl
+time_leaves (Timed (m, n)) = refl
 
 mutual
   run_leaves : (r : Run) (f : ℕ) → leaves (run_signs r) ≡ names (run_calls r f)

@@ -5,8 +5,8 @@ use Rattle.std.proofs.Math.Option.{Option, none, some}
 use Rattle.signs.specs.declared.sign.Sign.{Sign}
 use Rattle.signs.specs.declared.sign.Sign.TheVariants.{Block, LeftRepeat, RightRepeat, OpenEnding, CloseEnding, Jump, Segno, Coda, ToCoda, Fine}
 use Rattle.signs.specs.declared.sign.Sign.TheVariants.{Time as TimeSign}
-use Rattle.score.specs.declared.Time.{Time}
-use Rattle.score.specs.declared.Time.TheVariants.{Untimed, Timed}
+use Rattle.score.specs.Times.{Time}
+use Rattle.std.specs.Prelude.{None as Untimed, Some as Timed}
 use Rattle.score.specs.Trees.{Left, written, lacking, Run, nil, ◌▸◌, Item, leaf, repeat, group, Ends, no_more, ◌then◌}
 use Rattle.score.specs.Shapes.{Piece, run, sign, table, Score, time_of, shape_of, run_of}
 use Rattle.score.specs.Spelling.{signs_of}
@@ -40,7 +40,7 @@ abbrev mutual
 
 abbrev pub time_around : Time → List ℕ
 time_around Untimed = []
-time_around (Timed m n) = 0 ∷ []
+time_around (Timed (m, n)) = 0 ∷ []
 
 abbrev pub pieces_around : Score → List Piece → List ℕ
 pieces_around t [] = []

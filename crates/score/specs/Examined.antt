@@ -1,15 +1,13 @@
 -- What is right to answer for sign words: refusals 3 to 8 in their order, or what the reading is.
 -- Assumes nothing.
-use Rattle.std.specs.Prelude.{◌≡◌, true, cond, List, map, ℕ, ltb, length}
+use Rattle.std.specs.Prelude.{◌≡◌, true, cond, List, map, ℕ, ltb, length, Result, Ok, Err}
 use Rattle.std.proofs.Math.Option.{Option, none, some}
 use Rattle.refusals.specs.Limits.{Limits}
 use Rattle.refusals.specs.declared.Refusal.{Refusal}
-use Rattle.refusals.specs.declared.Refusal.TheVariants as refusal
+use Rattle.refusals.specs.declared.Refusal.TheVariants.{TooManySigns, NoScore, BadNumber, TooDeep, TooManyLoops, TooManyPlayed}
 use Rattle.signs.specs.Words.{sign_of}
 use Rattle.played.specs.Played.{total}
 use Rattle.score.specs.declared.Figures.{Figures}
-use Rattle.score.specs.declared.Examined.{Examined}
-use Rattle.score.specs.declared.Examined.TheVariants.{Taken, TooManySigns, NoScore, BadNumber, TooDeep, TooManyLoops, TooManyPlayed}
 use Rattle.score.specs.Shapes.{Score, time_of, shape_of}
 use Rattle.score.specs.Spelling.{signs_of}
 use Rattle.score.specs.Readings.{Answer, reading, refused, Right}
@@ -35,14 +33,18 @@ figures t =
       steps = steps t;
     }
 
+-- what is answered for a list of sign words: what the score is, or a refusal
+abbrev pub Examined : Type 0
+Examined = Result Figures Refusal
+
 -- a refusal at a place, if there is one, or what else is answered
-abbrev pub refused_at : (ℕ → Examined) → Option ℕ → Examined → Examined
+abbrev pub refused_at : (ℕ → Refusal) → Option ℕ → Examined → Examined
 refused_at f none x = x
-refused_at f (some i) x = f i
+refused_at f (some i) x = Err (f i)
 
 -- the limits of loops and of blocks played
 abbrev pub sized : Limits → Score → Examined
-sized l t = cond (ltb l.loops (loops t)) TooManyLoops (cond (ltb l.blocks (length (plays t))) TooManyPlayed (Taken (figures t)))
+sized l t = cond (ltb l.loops (loops t)) (Err TooManyLoops) (cond (ltb l.blocks (length (plays t))) (Err TooManyPlayed) (Ok (figures t)))
 
 -- the numbers, the depth, and the limits
 abbrev pub judged : Limits → Score → Examined
@@ -50,11 +52,11 @@ judged l t = refused_at BadNumber (first_break l 0 (signs_of t)) (refused_at Too
 
 abbrev pub answered : Limits → Answer → Examined
 answered l (reading t) = judged l t
-answered l (refused i) = NoScore i
+answered l (refused i) = Err (NoScore i)
 
 -- the answer for n words, of which the grammar says o
 abbrev pub examined : Limits → ℕ → Answer → Examined
-examined l n o = cond (ltb l.signs n) TooManySigns (answered l o)
+examined l n o = cond (ltb l.signs n) (Err TooManySigns) (answered l o)
 
 -- x is the answer for words
 pub record Examines (l : Limits) (words : List ℕ) (x : Examined) : Type 0 where
@@ -62,12 +64,7 @@ pub record Examines (l : Limits) (words : List ℕ) (x : Examined) : Type 0 wher
   pub right : Right true (map sign_of words) grammar
   pub answer : x ≡ examined l (length words) grammar
 
--- the refusal, whose number and place document 01 gives
+-- the refusal, whose number and place are its own
 abbrev pub refusal_of : Examined → Option Refusal
-refusal_of (Taken f) = none
-refusal_of TooManySigns = some refusal.TooManySigns
-refusal_of (NoScore i) = some (refusal.NoScore i)
-refusal_of (BadNumber i) = some (refusal.BadNumber i)
-refusal_of (TooDeep i) = some (refusal.TooDeep i)
-refusal_of TooManyLoops = some refusal.TooManyLoops
-refusal_of TooManyPlayed = some refusal.TooManyPlayed
+refusal_of (Ok f) = none
+refusal_of (Err r) = some r

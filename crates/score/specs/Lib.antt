@@ -11,3 +11,4 @@ pub mod Spelling
 pub mod Steps
 pub mod Sums
 pub mod Trees
+pub mod Times

@@ -1,8 +1,8 @@
 -- Which trees are scores, which of them reads a list of signs, and what is right to answer for one.
 -- Assumes nothing.
 use Rattle.std.specs.Prelude.{◌≡◌, Bool, true, false, List, ◌++◌, map, ℕ, zero, suc, ◌≤◌, ◌<◌, length, take, T}
-use Rattle.signs.specs.declared.word.Unpacked.{Unpacked}
-use Rattle.signs.specs.declared.word.Unpacked.TheVariants.{Packed}
+use Rattle.signs.specs.Words.{Unpacked}
+use Rattle.std.specs.Prelude.{Some as Packed}
 use Rattle.score.specs.Trees.{Left, written, lacking, Run, nil, ◌▸◌, Item, leaf, repeat, group, Ends, no_more, ◌then◌}
 use Rattle.score.specs.declared.Shape.{Shape}
 use Rattle.score.specs.Shapes.{Letter, A, B, C, D, table, Score, score, letters_of, times}

@@ -4,7 +4,7 @@ use Rattle.std.specs.Prelude.{◌≡◌, true, List, [], ◌∷◌, map, ℕ}
 use Rattle.signs.specs.declared.sign.Jumped.TheVariants.{DcFine, Ds, DsCoda}
 use Rattle.signs.specs.declared.sign.Sign.{Sign}
 use Rattle.signs.specs.declared.sign.Sign.TheVariants.{Block, Time, LeftRepeat, RightRepeat, OpenEnding, CloseEnding, Jump, Segno, Coda, ToCoda, Fine}
-use Rattle.signs.specs.declared.word.Unpacked.TheVariants.{Packed}
+use Rattle.std.specs.Prelude.{Some as Packed}
 use Rattle.score.specs.Trees.{Leaf, block}
 use Rattle.score.specs.Readings.{Answer, reading, refused, Right}
 use Rattle.played.specs.declared.Played.{Played}

@@ -6,8 +6,8 @@ use Rattle.signs.specs.declared.sign.Sign.{Sign}
 use Rattle.signs.specs.declared.sign.Sign.TheVariants.{Jump, Segno, Coda, ToCoda, Fine}
 use Rattle.score.specs.declared.Shape.{Shape}
 use Rattle.score.specs.declared.Shape.TheVariants.{Straight, DaCapo, DalSegno, DaCapoFine, DalSegnoFine, DaCapoCoda, DalSegnoCoda}
-use Rattle.score.specs.declared.Time.{Time}
-use Rattle.score.specs.declared.Time.TheVariants.{Untimed}
+use Rattle.score.specs.Times.{Time}
+use Rattle.std.specs.Prelude.{None as Untimed}
 use Rattle.score.specs.Trees.{Run}
 
 -- The runs of a shape go by letters.

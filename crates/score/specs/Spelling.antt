@@ -5,8 +5,8 @@ use Rattle.signs.specs.declared.sign.Sign.{Sign}
 use Rattle.signs.specs.declared.sign.Sign.TheVariants.{Block, LeftRepeat, RightRepeat, OpenEnding, CloseEnding}
 use Rattle.signs.specs.declared.sign.Sign.TheVariants.{Time as TimeSign}
 use Rattle.score.specs.Trees.{Leaf, block, Left, written, lacking, Run, nil, ◌▸◌, Item, leaf, repeat, group, Ends, no_more, ◌then◌}
-use Rattle.score.specs.declared.Time.{Time}
-use Rattle.score.specs.declared.Time.TheVariants.{Untimed, Timed}
+use Rattle.score.specs.Times.{Time}
+use Rattle.std.specs.Prelude.{None as Untimed, Some as Timed}
 use Rattle.score.specs.Shapes.{Piece, run, sign, table, Score, time_of, shape_of, run_of}
 
 abbrev pub leaf_sign : Leaf → Sign
@@ -34,7 +34,7 @@ abbrev mutual
 
 abbrev pub time_signs : Time → List Sign
 time_signs Untimed = []
-time_signs (Timed m n) = TimeSign m n ∷ []
+time_signs (Timed (m, n)) = TimeSign m n ∷ []
 
 -- the pieces of a shape, with the score's runs
 abbrev pub spelled : Score → List Piece → List Sign

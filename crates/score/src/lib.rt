@@ -3,7 +3,7 @@
 #![tactic(auto)]
 
 // The seven shapes of a score.
-#[derive(Clone, Copy)]
+#[derive(Clone, Copy, Debug, PartialEq, Eq)]
 pub enum Shape {
     Straight,
     DaCapo,
@@ -14,18 +14,12 @@ pub enum Shape {
     DalSegnoCoda,
 }
 
-// The time sign of a score, if it has one: m beats to the bar, each a 1/n note.
-#[derive(Clone, Copy)]
-pub enum Time {
-    Untimed,
-    Timed(u32, u32),
-}
-
 // What is told of a score that is taken.
-#[derive(Clone, Copy)]
+#[derive(Clone, Copy, Debug, PartialEq, Eq)]
 pub struct Figures {
     pub shape: Shape,
-    pub time: Time,
+    // The time sign, if it has one: m beats to the bar, each a 1/n note.
+    pub time: Option<(u32, u32)>,
     // The loops of its listing, and those of them whose left repeat lacks.
     pub loops: u64,
     pub implied: u64,
@@ -37,16 +31,4 @@ pub struct Figures {
     pub written: u64,
     pub beats: u64,
     pub steps: u64,
-}
-
-// What is answered for a list of sign words: a score with its figures, or a refusal. Signs are named by their number, from 0.
-#[derive(Clone, Copy)]
-pub enum Examined {
-    Taken(Figures),
-    TooManySigns,
-    NoScore(u64),
-    BadNumber(u64),
-    TooDeep(u64),
-    TooManyLoops,
-    TooManyPlayed,
 }

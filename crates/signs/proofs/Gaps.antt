@@ -1,6 +1,7 @@
 -- A text from a place on, by the byte that stands there; a byte past the end reads as 0.
 -- Assumes nothing.
-use mathlib.Core.Path.{◌≡◌, refl, ◌∙◌}
+use Rattle.std.specs.Prelude.{Option, Some, None}
+use mathlib.Core.Path.{◌≡◌, refl, ap, ◌∙◌}
 use mathlib.Core.Bool.{Bool, true, false, cond, ◌&&◌}
 use mathlib.Core.List.{List, [], ◌∷◌}
 use Prim.Native.Nat.{ℕ, zero, suc, ◌+◌, ◌≤◌, ◌<◌}
@@ -13,6 +14,32 @@ use Rattle.signs.specs.Text.{front, gap, past, starts}
 
 pub clash : {A : Type 0} → ◌≡◌ {A = ℕ} 0 1 → A
 clash e = absurd (omega arith)
+
+-- the place behind what was read
+place_behind : {A : Type 0} → Option (A × ℕ) → ℕ
+place_behind None = 0
+place_behind (Some (x, p)) = p
+
+pub same_place : {A : Type 0} (x y : A) (p q : ℕ) → ◌≡◌ {A = Option (A × ℕ)} (Some (x, p)) (Some (y, q)) → p ≡ q
+unfolding place_behind
+same_place x y p q e = ap place_behind e
+
+read_or : {A : Type 0} → A → Option (A × ℕ) → A
+read_or d None = d
+read_or d (Some (x, p)) = x
+
+-- what was read
+pub same_read : {A : Type 0} (x y : A) (p q : ℕ) → ◌≡◌ {A = Option (A × ℕ)} (Some (x, p)) (Some (y, q)) → x ≡ y
+unfolding read_or
+same_read x y p q e = ap (read_or x) e
+
+place_behind_two : Option (ℕ × ℕ × ℕ) → ℕ
+place_behind_two None = 0
+place_behind_two (Some (k, l, p)) = p
+
+pub same_place_two : (k l p k' l' q : ℕ) → ◌≡◌ {A = Option (ℕ × ℕ × ℕ)} (Some (k, l, p)) (Some (k', l', q)) → p ≡ q
+unfolding place_behind_two
+same_place_two k l p k' l' q e = ap place_behind_two e
 
 pub both_true : (a b : Bool) → a && b ≡ true → (a ≡ true) × (b ≡ true)
 both_true true b e = (refl, e)

@@ -6,3 +6,4 @@ pub mod Scan
 pub mod Finish
 pub mod Coming
 pub mod Packing
+pub mod First

@@ -1,58 +1,58 @@
 -- A word is a sign exactly when it is the packing of one.
 -- Assumes nothing.
+use Rattle.std.specs.Prelude.{None, Option, Some}
 use mathlib.Core.Path.{◌≡◌, refl, sym, ap, ◌∙◌}
 use mathlib.Core.Bool.{Bool, true, false, cond, ◌&&◌}
 use mathlib.Core.List.{List, [], ◌∷◌}
 use mathlib.Core.Logic.{◌↔◌}
 use Prim.Native.Nat.{ℕ, zero, suc, ◌+◌, ◌*◌, ◌/◌, ◌%◌, ◌^◌, ◌≤◌, ◌<◌}
 use native.Mathlib.Omega.{arith}
-use borrow.Author.Tests.{ltb-true, lt-ltb, eqb-true, eqb-false}
+use borrow.Author.Tests.{ltb-true, lt-ltb, eqb-true}
 use lib.Dec.{eqb}
 use lib.ListN.{get_or}
 use Rattle.signs.specs.declared.sign.Jumped.TheVariants.{Dc, DcCoda, DcFine, Ds, DsCoda, DsFine}
 use Rattle.signs.specs.declared.sign.Sign.{Sign}
 use Rattle.signs.specs.declared.sign.Sign.TheVariants.{Block, Time, LeftRepeat, RightRepeat, OpenEnding, CloseEnding, Jump, Segno, Coda, ToCoda, Fine}
-use Rattle.signs.specs.declared.word.Unpacked.{Unpacked}
-use Rattle.signs.specs.declared.word.Unpacked.TheVariants.{Packed, Nothing}
-use Rattle.signs.specs.Words.{parts, parts_of, fits, packed, word_of, plain_signs, plain_sign, unpacked, sign_of}
+use Rattle.words.specs.Words.{parts, fits, packed}
+use Rattle.signs.specs.Words.{parts_of, word_of, plain_signs, plain_sign, unpacked, sign_of}
 use Rattle.signs.proofs.Gaps.{clash}
 
 -- each sign of the table has its place as its kind, and no number
-abbrev Kinds : ℕ → List Unpacked → Type 0
+abbrev Kinds : ℕ → List (Option Sign) → Type 0
 Kinds k [] = Unit
-Kinds k (Nothing ∷ us) = Kinds (suc k) us
-Kinds k (Packed s ∷ us) = (parts_of s ≡ parts k 0 0) × Kinds (suc k) us
+Kinds k (None ∷ us) = Kinds (suc k) us
+Kinds k (Some s ∷ us) = (parts_of s ≡ parts k 0 0) × Kinds (suc k) us
 
-kind_at : (us : List Unpacked) (k i : ℕ) (s : Sign) → Kinds k us → get_or us i Nothing ≡ Packed s → parts_of s ≡ parts (k + i) 0 0
+kind_at : (us : List (Option Sign)) (k i : ℕ) (s : Sign) → Kinds k us → get_or us i None ≡ Some s → parts_of s ≡ parts (k + i) 0 0
 kind_at [] k i s h e = clash (cc)
-kind_at (Nothing ∷ us) k zero s h e = clash (cc)
-kind_at (Packed t ∷ us) k zero s h e = let q : t ≡ s = cc in ap parts_of (sym q) ∙ h.0 ∙ ap (λ n. parts n 0 0) (omega arith)
-kind_at (Nothing ∷ us) k (suc i) s h e = kind_at us (suc k) i s h e ∙ ap (λ n. parts n 0 0) (omega arith)
-kind_at (Packed t ∷ us) k (suc i) s h e = kind_at us (suc k) i s h.1 e ∙ ap (λ n. parts n 0 0) (omega arith)
+kind_at (None ∷ us) k zero s h e = clash (cc)
+kind_at (Some t ∷ us) k zero s h e = let q : t ≡ s = cc in ap parts_of (sym q) ∙ h.0 ∙ ap (λ n. parts n 0 0) (omega arith)
+kind_at (None ∷ us) k (suc i) s h e = kind_at us (suc k) i s h e ∙ ap (λ n. parts n 0 0) (omega arith)
+kind_at (Some t ∷ us) k (suc i) s h e = kind_at us (suc k) i s h.1 e ∙ ap (λ n. parts n 0 0) (omega arith)
 
-plain_parts : (kind : ℕ) (s : Sign) → plain_sign kind ≡ Packed s → parts_of s ≡ parts kind 0 0
+plain_parts : (kind : ℕ) (s : Sign) → plain_sign kind ≡ Some s → parts_of s ≡ parts kind 0 0
 plain_parts kind s e =
     kind_at plain_signs 0 kind s (refl, (refl, (refl, (refl, (refl, (refl, (refl, (refl, (refl, (refl, (refl, (refl, (refl, (refl, tt)))))))))))))) e
     ∙ ap (λ n. parts n 0 0) (omega arith)
 
-unpacked_parts : (kind a b : ℕ) (s : Sign) → unpacked kind a b ≡ Packed s → parts_of s ≡ parts kind a b
+unpacked_parts : (kind a b : ℕ) (s : Sign) → unpacked kind a b ≡ Some s → parts_of s ≡ parts kind a b
 unpacked_parts kind a b s e = one (eqb kind 1) refl e
   where
-    zeros : (x y : Bool) → eqb a 0 ≡ x → eqb b 0 ≡ y → cond (x && y) (plain_sign kind) Nothing ≡ Packed s → parts_of s ≡ parts kind a b
+    zeros : (x y : Bool) → eqb a 0 ≡ x → eqb b 0 ≡ y → cond (x && y) (plain_sign kind) None ≡ Some s → parts_of s ≡ parts kind a b
     zeros true true p q f = rw (eqb-true a 0 p, eqb-true b 0 q) (plain_parts kind s f)
     zeros true false p q f = clash (cc)
     zeros false y p q f = clash (cc)
 
-    two : (t : Bool) → eqb kind 2 ≡ t → cond t (Packed (Time a b)) (cond (eqb a 0 && eqb b 0) (plain_sign kind) Nothing) ≡ Packed s → parts_of s ≡ parts kind a b
+    two : (t : Bool) → eqb kind 2 ≡ t → cond t (Some (Time a b)) (cond (eqb a 0 && eqb b 0) (plain_sign kind) None) ≡ Some s → parts_of s ≡ parts kind a b
     two true q f = let u : Time a b ≡ s = cc in ap parts_of (sym u) ∙ ap (λ k. parts k a b) (sym (eqb-true kind 2 q))
     two false q f = zeros (eqb a 0) (eqb b 0) refl refl f
 
-    one : (t : Bool) → eqb kind 1 ≡ t → cond t (Packed (Block a b)) (cond (eqb kind 2) (Packed (Time a b)) (cond (eqb a 0 && eqb b 0) (plain_sign kind) Nothing)) ≡ Packed s → parts_of s ≡ parts kind a b
+    one : (t : Bool) → eqb kind 1 ≡ t → cond t (Some (Block a b)) (cond (eqb kind 2) (Some (Time a b)) (cond (eqb a 0 && eqb b 0) (plain_sign kind) None)) ≡ Some s → parts_of s ≡ parts kind a b
     one true q f = let u : Block a b ≡ s = cc in ap parts_of (sym u) ∙ ap (λ k. parts k a b) (sym (eqb-true kind 1 q))
     one false q f = two (eqb kind 2) refl f
 
 -- the parts of the sign that a word is
-pub word_parts : (w : ℕ) (s : Sign) → sign_of w ≡ Packed s → parts_of s ≡ parts (w % 256) (w / 256 % 268435456) (w / 68719476736)
+pub word_parts : (w : ℕ) (s : Sign) → sign_of w ≡ Some s → parts_of s ≡ parts (w % 256) (w / 256 % 268435456) (w / 68719476736)
 word_parts w s e = unpacked_parts (w % 256) (w / 256 % 268435456) (w / 68719476736) s e
 
 -- the kind of a sign is 1 to 16
@@ -75,7 +75,7 @@ kind_range ToCoda = (omega arith, omega arith)
 kind_range Fine = (omega arith, omega arith)
 
 -- the parts of a sign say which it is
-parts_again : (s : Sign) → unpacked (parts_of s).kind (parts_of s).first (parts_of s).second ≡ Packed s
+parts_again : (s : Sign) → unpacked (parts_of s).kind (parts_of s).first (parts_of s).second ≡ Some s
 parts_again (Block k l) = refl
 parts_again (Time m n) = refl
 parts_again LeftRepeat = refl
@@ -93,32 +93,8 @@ parts_again Coda = refl
 parts_again ToCoda = refl
 parts_again Fine = refl
 
--- a sign is a block or a time with its numbers, or stands at its kind
-pub data Which (s : Sign) : Type 0 where
-  a_block : (k l : ℕ) → s ≡ Block k l → Which s
-  a_time : (m n : ℕ) → s ≡ Time m n → Which s
-  plain : 2 < (parts_of s).kind → plain_sign (parts_of s).kind ≡ Packed s → Which s
-
-which_by : (s : Sign) (kind a b : ℕ) → kind ≡ (parts_of s).kind → unpacked kind a b ≡ Packed s → Which s
-which_by s kind a b k e = one (eqb kind 1) refl e
-  where
-    zeros : (x : Bool) → eqb kind 1 ≡ false → eqb kind 2 ≡ false → cond x (plain_sign kind) Nothing ≡ Packed s → Which s
-    zeros true p q f = let r = kind_range s in plain (omega (arith, k, eqb-false kind 1 p, eqb-false kind 2 q)) (rw k at f)
-    zeros false p q f = clash (cc)
-
-    two : (t : Bool) → eqb kind 1 ≡ false → eqb kind 2 ≡ t → cond t (Packed (Time a b)) (cond (eqb a 0 && eqb b 0) (plain_sign kind) Nothing) ≡ Packed s → Which s
-    two true p q f = a_time a b (cc)
-    two false p q f = zeros (eqb a 0 && eqb b 0) p q f
-
-    one : (t : Bool) → eqb kind 1 ≡ t → cond t (Packed (Block a b)) (cond (eqb kind 2) (Packed (Time a b)) (cond (eqb a 0 && eqb b 0) (plain_sign kind) Nothing)) ≡ Packed s → Which s
-    one true p f = a_block a b (cc)
-    one false p f = two (eqb kind 2) p refl f
-
-pub which : (s : Sign) → Which s
-which s = which_by s (parts_of s).kind (parts_of s).first (parts_of s).second refl (parts_again s)
-
 -- a word of 64 bits that is a sign is that sign's word
-pub word_again : (w : ℕ) → w < 2 ^ 64 → (s : Sign) → sign_of w ≡ Packed s → word_of s ≡ w
+pub word_again : (w : ℕ) → w < 2 ^ 64 → (s : Sign) → sign_of w ≡ Some s → word_of s ≡ w
 word_again w h s e =
     let a : w / 256 % 268435456 < 268435456 = omega arith in
     let b : w / 68719476736 < 268435456 = omega arith in
@@ -128,7 +104,7 @@ low_bits : (k x y : ℕ) → k < 256 → x < 268435456 → (k + 256 * x + 687194
 low_bits k x y hk hx = let d : (k + 256 * x + 68719476736 * y) / 256 ≡ x + 268435456 * y = omega arith in rw d (omega arith)
 
 -- a sign whose numbers fit is what its word is
-pub sign_again : (s : Sign) → (parts_of s).first < 268435456 → (parts_of s).second < 268435456 → sign_of (word_of s) ≡ Packed s
+pub sign_again : (s : Sign) → (parts_of s).first < 268435456 → (parts_of s).second < 268435456 → sign_of (word_of s) ≡ Some s
 sign_again s ha hb =
     let p = parts_of s in
     let k = kind_range s in
@@ -150,8 +126,8 @@ some_word s h = go (fits (parts_of s).first) (fits (parts_of s).second) refl ref
     go false y p q n = absurd (n refl)
 
 -- a word of 64 bits is a sign exactly when it is the packing of that sign, and not 0
-pub exactly : (w : ℕ) → w < 2 ^ 64 → (s : Sign) → (sign_of w ≡ Packed s) ↔ ((word_of s ≡ w) × (w ≡ 0 → ⊥))
+pub exactly : (w : ℕ) → w < 2 ^ 64 → (s : Sign) → (sign_of w ≡ Some s) ↔ ((word_of s ≡ w) × (w ≡ 0 → ⊥))
 exactly w h s = (
-  λ e. (word_again w h s e, λ z. let u : Nothing ≡ Packed s = sym (ap sign_of z) ∙ e in clash (cc)),
+  λ e. (word_again w h s e, λ z. let u : None ≡ Some s = sym (ap sign_of z) ∙ e in clash (cc)),
   λ q. let n = some_word s (λ z. q.1 (sym q.0 ∙ z)) in ap sign_of (sym q.0) ∙ sign_again s n.0 n.1,
 )

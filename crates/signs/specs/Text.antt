@@ -20,9 +20,13 @@ abbrev pub gap : Bool → ℕ → Bool
 gap true = space
 gap false = separator
 
+-- the first place from `at` on whose byte does not pass a test
+abbrev pub beyond : (ℕ → Bool) → List ℕ → ℕ → ℕ
+beyond test text at = at + front test (drop at text)
+
 -- the first place from `at` on that is not in the gap there
 abbrev pub past : Bool → List ℕ → ℕ → ℕ
-past inside text at = at + front (gap inside) (drop at text)
+past inside = beyond (gap inside)
 
 -- the bytes begin with the letters
 unfoldable pub starts : List ℕ → List ℕ → Bool

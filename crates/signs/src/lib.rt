@@ -12,4 +12,4 @@ mod word;
 pub use next::{Next, next_sign};
 pub use sign::{Jumped, Sign};
 pub use spelling::letters;
-pub use word::{Unpacked, pack, unpack};
+pub use word::NotASign;

@@ -1,77 +1,62 @@
 // Numbers in a text: their digits, and the two numbers that a sign carries.
-ghost use Rattle.std.specs.Prelude.{◌≡◌};
-ghost use Rattle.signs.specs.Numbers.{digit, number_at, pair_at};
+ghost use Rattle.std.specs.Prelude.{◌≡◌, ◌≤◌, length};
+ghost use Rattle.signs.specs.Numbers.{digit, decimal, numeral, AreDigits, number_at, pair_at};
 
-use crate::text::{past, peek};
-
-// A number and the place after it, or nothing that is one.
-#[derive(Clone, Copy)]
-pub enum Number {
-    Read(u32, usize),
-    Nothing,
-}
-
-// Two numbers and the place after their bracket, or nothing that is that.
-#[derive(Clone, Copy)]
-pub enum Pair {
-    Both(u32, u32, usize),
-    Nothing,
-}
+use crate::text::{is_space, past, peek};
 
 fn is_digit(b: u8) -> bool
     ensures { result ≡ digit b }
 {
-    48 <= b && b <= 57
+    b.is_ascii_digit()
 }
 
-// The number at a place: 1 to 6 digits, no leading zero except 0 alone.
-#[tactic(auto, using(crate::proofs::Digits::one_more, crate::proofs::Digits::too_many, crate::proofs::Digits::no_digit, crate::proofs::Digits::one_digit, crate::proofs::Digits::zero_first, crate::proofs::Digits::many_digits))]
-fn read_number(text: &[u8], at: usize) -> Number
+// Whether digits are a number: 1 to 6 of them, no leading zero except 0 alone.
+#[tactic(auto, unfolding(crate::specs::Numbers::numeral))]
+fn is_numeral(digits: &[u8]) -> bool
+    ensures { result ≡ numeral digits.now }
+{
+    1 <= digits.len() && digits.len() <= 6 && (digits.len() == 1 || digits[0] != b'0')
+}
+
+// What digits say in decimal.
+#[tactic(auto, using(crate::proofs::Digits::none_said, crate::proofs::Digits::one_more, crate::proofs::Digits::all_said, crate::proofs::Digits::digit_range, crate::proofs::Digits::room))]
+fn value_of(digits: &[u8]) -> u32
+    requires few { length digits.now ≤ 6 }
+    requires all { AreDigits digits.now }
+    ensures { result ≡ decimal 0 digits.now }
+{
+    let mut value = 0;
+    for digit in digits {
+        value = value * 10 + (*digit - b'0') as u32;
+    }
+    value
+}
+
+// The number at a place, and the place after it.
+#[tactic(auto, using(crate::proofs::Digits::digits_there, crate::proofs::Digits::digits_end, crate::proofs::Digits::number_none, crate::proofs::Digits::digits_all, crate::proofs::Digits::numeral_few))]
+fn read_number(text: &[u8], at: usize) -> Option<(u32, usize)>
     ensures { result ≡ number_at text.now at }
 {
-    let mut n: usize = 0;
-    let mut value: u32 = 0;
-    let mut p = at;
-    loop {
-        let b = peek(text, p);
-        if !is_digit(b) {
-            break;
-        }
-        if n == 6 {
-            return Number::Nothing;
-        }
-        value = value * 10 + (b - 48) as u32;
-        n += 1;
-        p += 1;
+    let end = past(text, at, is_digit);
+    let digits = text.get(at..end)?;
+    if !is_numeral(digits) {
+        return None;
     }
-    if n == 0 {
-        return Number::Nothing;
-    }
-    if n == 1 {
-        return Number::Read(value, p);
-    }
-    if peek(text, at) == 48 {
-        return Number::Nothing;
-    }
-    Number::Read(value, p)
+    Some((value_of(digits), end))
 }
 
-// Spaces, a number, a comma, spaces, a number and a closing bracket.
+// The two numbers at a place, and the place after them: spaces, a number, a comma, spaces, a number and a closing bracket.
 #[tactic(auto, using(crate::proofs::Digits::pair_none, crate::proofs::Digits::pair_no_comma, crate::proofs::Digits::pair_second, crate::proofs::Digits::pair_open, crate::proofs::Digits::pair_closed))]
-pub(crate) fn read_pair(text: &[u8], at: usize) -> Pair
+pub(crate) fn read_pair(text: &[u8], at: usize) -> Option<(u32, u32, usize)>
     ensures { result ≡ pair_at text.now at }
 {
-    let Number::Read(k, p) = read_number(text, past(text, at, true)) else {
-        return Pair::Nothing;
-    };
+    let (k, p) = read_number(text, past(text, at, is_space))?;
     if peek(text, p) != b',' {
-        return Pair::Nothing;
+        return None;
     }
-    let Number::Read(l, q) = read_number(text, past(text, p + 1, true)) else {
-        return Pair::Nothing;
-    };
+    let (l, q) = read_number(text, past(text, p + 1, is_space))?;
     if peek(text, q) != b')' {
-        return Pair::Nothing;
+        return None;
     }
-    Pair::Both(k, l, q + 1)
+    Some((k, l, q + 1))
 }

@@ -1,38 +1,37 @@
 // A text from a place on: its bytes, and the gaps between and inside signs.
-ghost use Rattle.std.specs.Prelude.{◌≡◌, get_or};
-ghost use Rattle.signs.specs.Text.{gap};
-ghost use Rattle.signs.specs.Text.{past as past_gap};
+ghost use Rattle.std.specs.Prelude.{◌≡◌, Bool, ℕ, get_or};
+ghost use Rattle.signs.specs.Text.{space, separator, beyond};
 
 // The byte at a place, 0 past the text.
 pub(crate) fn peek(text: &[u8], at: usize) -> u8
     ensures { result ≡ get_or text.now at 0 }
 {
-    if at < text.len() { text[at] } else { 0 }
+    text.get(at).copied().unwrap_or(0)
 }
 
-// Whether a byte may stand in a gap: after a comma inside a sign byte 32, between signs each separator.
-fn is_gap(b: u8, inside: bool) -> bool
-    ensures { result ≡ gap inside b }
+// Whether a byte may follow a comma inside a sign.
+pub(crate) fn is_space(b: u8) -> bool
+    ensures { result ≡ space b }
 {
-    match b {
-        32 => true,
-        9 => !inside,
-        10 => !inside,
-        13 => !inside,
-        _ => false,
-    }
+    b == b' '
 }
 
-// The first place from `at` on that is not in the gap there.
-pub(crate) fn past(text: &[u8], at: usize, inside: bool) -> usize
-    ensures { result ≡ past_gap inside text.now at }
+// Whether a byte may stand between signs.
+pub(crate) fn is_separator(b: u8) -> bool
+    ensures { result ≡ separator b }
 {
-    let mut i = at;
-    while i < text.len() {
-        if !is_gap(text[i], inside) {
+    matches!(b, b' ' | b'\t' | b'\n' | b'\r')
+}
+
+// The first place from `at` on whose byte does not pass a test.
+pub(crate) fn past<F: Fn(u8) -> bool>(text: &[u8], at: usize, passes: F) -> usize
+    requires { F.IsAlwaysCallable passes }
+    ensures { (test : ℕ → Bool) → ((b : ℕ) (t : Bool) → F.post passes b t → t ≡ test b) → result ≡ beyond test text.now at }
+{
+    for i in at..text.len() {
+        if !passes(text[i]) {
             return i;
         }
-        i += 1;
     }
-    i
+    at.max(text.len())
 }

@@ -1,103 +1,101 @@
 // A sign as a word of 64 bits: its kind in 8 bits, then two numbers of 28 bits each.
-ghost use Rattle.std.specs.Prelude.{◌≡◌, ◌≤◌};
-ghost use Rattle.signs.specs.Words.{jump_kind, parts, plain_sign, word_of, sign_of};
-ghost use Rattle.signs.specs.Words.{packed as packed_word};
+ghost use Rattle.std.specs.Prelude.{◌≡◌, Some, ok_or};
+ghost use Rattle.signs.specs.Words.{parts_of, plain_sign, word_of, sign_of, not_a_sign};
 
 use crate::sign::{Jumped, Sign};
+use std::error::Error;
+use std::fmt;
+use words::Parts;
 
-// The sign that a word packs, or nothing.
-#[derive(Clone, Copy)]
-pub enum Unpacked {
-    Packed(Sign),
-    Nothing,
+// A word that packs no sign.
+#[derive(Clone, Copy, Debug, PartialEq, Eq)]
+pub struct NotASign(pub u64);
+
+impl fmt::Display for NotASign {
+    ghost output = { λ e. Some (not_a_sign e) };
+
+    fn fmt<W: fmt::Write>(&self, f: &mut fmt::Formatter<W>) -> fmt::Result {
+        write!(f, "no sign has the word {}", self.0)
+    }
+}
+
+impl Error for NotASign {}
+
+// The kind of a sign and the numbers that it carries, 0 where it carries none.
+impl From<Sign> for Parts {
+    ghost from_gives = { λ s p. p ≡ parts_of s };
+
+    fn from(sign: Sign) -> Parts {
+        let (kind, first, second) = match sign {
+            Sign::Block(k, l) => (1, k, l),
+            Sign::Time(m, n) => (2, m, n),
+            Sign::LeftRepeat => (3, 0, 0),
+            Sign::RightRepeat => (4, 0, 0),
+            Sign::OpenEnding => (5, 0, 0),
+            Sign::CloseEnding => (6, 0, 0),
+            Sign::Jump(jump) => (jump as u8, 0, 0),
+            Sign::Segno => (13, 0, 0),
+            Sign::Coda => (14, 0, 0),
+            Sign::ToCoda => (15, 0, 0),
+            Sign::Fine => (16, 0, 0),
+        };
+        Parts {
+            kind,
+            first,
+            second,
+        }
+    }
 }
 
 // The word of a sign; 0, which is no sign's, where a number does not fit.
-pub fn pack(s: Sign) -> u64
-    ensures { result ≡ word_of s }
-{
-    match s {
-        Sign::Block(k, l) => packed(1, k as u64, l as u64),
-        Sign::Time(m, n) => packed(2, m as u64, n as u64),
-        Sign::LeftRepeat => 3,
-        Sign::RightRepeat => 4,
-        Sign::OpenEnding => 5,
-        Sign::CloseEnding => 6,
-        Sign::Jump(j) => jump_kind(j),
-        Sign::Segno => 13,
-        Sign::Coda => 14,
-        Sign::ToCoda => 15,
-        Sign::Fine => 16,
-    }
-}
+impl From<Sign> for u64 {
+    ghost from_gives = { λ s w. w ≡ word_of s };
 
-fn jump_kind(j: Jumped) -> u64
-    ensures { result ≡ jump_kind j }
-{
-    match j {
-        Jumped::DcCoda => 7,
-        Jumped::DcFine => 8,
-        Jumped::DsCoda => 9,
-        Jumped::DsFine => 10,
-        Jumped::Dc => 11,
-        Jumped::Ds => 12,
+    fn from(sign: Sign) -> u64 {
+        u64::from(Parts::from(sign))
     }
-}
-
-fn packed(kind: u64, a: u64, b: u64) -> u64
-    requires { kind ≤ 255 }
-    ensures { result ≡ packed_word (parts kind a b) }
-{
-    if 268435456 <= a {
-        return 0;
-    }
-    if 268435456 <= b {
-        return 0;
-    }
-    kind + 256 * a + 68719476736 * b
 }
 
 // The sign that a word packs.
-pub fn unpack(w: u64) -> Unpacked
-    ensures { result ≡ sign_of w }
-{
-    let kind = w % 256;
-    let a = w / 256 % 268435456;
-    let b = w / 68719476736;
-    if kind == 1 {
-        return Unpacked::Packed(Sign::Block(a as u32, b as u32));
+impl TryFrom<u64> for Sign {
+    type Error = NotASign;
+
+    ghost try_from_gives = { λ w s. s ≡ ok_or (sign_of w) (record { 0 = w }) };
+
+    fn try_from(word: u64) -> Result<Sign, NotASign> {
+        let Parts {
+            kind,
+            first,
+            second,
+        } = Parts::from(word);
+        match (kind, first, second) {
+            (1, k, l) => Ok(Sign::Block(k, l)),
+            (2, m, n) => Ok(Sign::Time(m, n)),
+            (_, 0, 0) => plain(kind).ok_or(NotASign(word)),
+            _ => Err(NotASign(word)),
+        }
     }
-    if kind == 2 {
-        return Unpacked::Packed(Sign::Time(a as u32, b as u32));
-    }
-    if a != 0 {
-        return Unpacked::Nothing;
-    }
-    if b != 0 {
-        return Unpacked::Nothing;
-    }
-    plain(kind)
 }
 
 // The sign of a kind that carries no number, or nothing.
-pub(crate) fn plain(kind: u64) -> Unpacked
+pub(crate) fn plain(kind: u8) -> Option<Sign>
     ensures { result ≡ plain_sign kind }
 {
     match kind {
-        3 => Unpacked::Packed(Sign::LeftRepeat),
-        4 => Unpacked::Packed(Sign::RightRepeat),
-        5 => Unpacked::Packed(Sign::OpenEnding),
-        6 => Unpacked::Packed(Sign::CloseEnding),
-        7 => Unpacked::Packed(Sign::Jump(Jumped::DcCoda)),
-        8 => Unpacked::Packed(Sign::Jump(Jumped::DcFine)),
-        9 => Unpacked::Packed(Sign::Jump(Jumped::DsCoda)),
-        10 => Unpacked::Packed(Sign::Jump(Jumped::DsFine)),
-        11 => Unpacked::Packed(Sign::Jump(Jumped::Dc)),
-        12 => Unpacked::Packed(Sign::Jump(Jumped::Ds)),
-        13 => Unpacked::Packed(Sign::Segno),
-        14 => Unpacked::Packed(Sign::Coda),
-        15 => Unpacked::Packed(Sign::ToCoda),
-        16 => Unpacked::Packed(Sign::Fine),
-        _ => Unpacked::Nothing,
+        3 => Some(Sign::LeftRepeat),
+        4 => Some(Sign::RightRepeat),
+        5 => Some(Sign::OpenEnding),
+        6 => Some(Sign::CloseEnding),
+        7 => Some(Sign::Jump(Jumped::DcCoda)),
+        8 => Some(Sign::Jump(Jumped::DcFine)),
+        9 => Some(Sign::Jump(Jumped::DsCoda)),
+        10 => Some(Sign::Jump(Jumped::DsFine)),
+        11 => Some(Sign::Jump(Jumped::Dc)),
+        12 => Some(Sign::Jump(Jumped::Ds)),
+        13 => Some(Sign::Segno),
+        14 => Some(Sign::Coda),
+        15 => Some(Sign::ToCoda),
+        16 => Some(Sign::Fine),
+        _ => None,
     }
 }

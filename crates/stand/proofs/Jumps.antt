@@ -3,27 +3,29 @@
 use mathlib.Core.Path.{◌≡◌, refl, sym, ap, ap₂, ◌∙◌}
 use mathlib.Core.Bool.{Bool, true, false, cond}
 use mathlib.Core.List.{List, [], ◌∷◌}
-use mathlib.Core.Option.{Option}
+use Rattle.std.specs.Bool.{◌==◌}
+use Rattle.std.specs.Prelude.{Option, Some, None}
+use Rattle.std.specs.List.{position, position_or_len}
+use Rattle.std.proofs.lemmas.List.Sums.{position_or_len_is}
 use Prim.Native.Nat.{ℕ, zero, suc, ◌<◌, ◌≤◌}
 use native.Mathlib.Omega.{arith}
 use lib.ListN.{length, get_or}
 use lib.Dec.{ltb}
-use borrow.Author.Tests.{ltb-true, ltb-false}
+use borrow.Author.Tests.{ltb-true, ltb-false, lt-ltb, eq-eqb, ne_eqb}
 use Rattle.refusals.specs.Limits.{Limits}
-use Rattle.instructions.specs.declared.Unpacked.{Unpacked}
-use Rattle.instructions.specs.declared.Unpacked.TheVariants.{Is, Nothing}
+use Rattle.instructions.specs.declared.Instruction.{Instruction}
 use Rattle.instructions.specs.Forms.{lb}
 use Rattle.instructions.specs.Words.{packed, decoded, unpacked}
 use Rattle.instructions.specs.Rules.{At}
-use Rattle.instructions.specs.Places.{least, is, loop_mark, label_mark, first_place, loop_place}
+use Rattle.instructions.specs.Places.{least, is, loop_mark, label_mark, first_place, loop_place, label_place}
 use Rattle.instructions.specs.Test.{keeps}
 use Rattle.instructions.proofs.Least.{never}
 use Rattle.instructions.proofs.Inverse.{inverse}
 use Rattle.instructions.proofs.Passed.{too_far}
-use Rattle.instructions.proofs.Marks.{is_decoded, inside}
-use Rattle.instructions.proofs.Listings.{all_kept, none_kept, kept_label}
+use Rattle.instructions.proofs.Marks.{is_decoded, label_there, there_label, at_first, not_before}
+use Rattle.instructions.proofs.Listings.{all_kept, none_kept}
 use Rattle.machine.specs.Machine.{find, loop_at, label_at}
-use Rattle.stand.specs.Steps.{program, Tested, Marked}
+use Rattle.stand.specs.Steps.{program, Tested}
 
 -- every word is the instruction that it decodes to
 abbrev pub Words : List ℕ → Type 0
@@ -32,9 +34,9 @@ Words listing = (i : ℕ) → i < length listing → At listing i (decoded (get_
 pub words : (l : Limits) (listing : List ℕ) → Tested l listing → Words listing
 words l listing tested i h = go (unpacked (get_or listing i 0)) refl
   where
-    go : (u : Unpacked) → unpacked (get_or listing i 0) ≡ u → unpacked (get_or listing i 0) ≡ Is (decoded (get_or listing i 0))
-    go (Is x) e = e ∙ ap Is (sym (is_decoded _ x e))
-    go Nothing e = absurd (none_kept l listing i e (all_kept l listing tested i h))
+    go : (u : Option Instruction) → unpacked (get_or listing i 0) ≡ u → unpacked (get_or listing i 0) ≡ Some (decoded (get_or listing i 0))
+    go (Some x) e = e ∙ ap Some (sym (is_decoded _ x e))
+    go None e = absurd (none_kept l listing i e (all_kept l listing tested i h))
 
 -- the listing is not too long
 pub short_listing : (l : Limits) (listing : List ℕ) → Tested l listing → length listing ≤ l.instructions
@@ -45,32 +47,44 @@ short_listing l listing tested = go (ltb l.instructions (length listing)) refl
     go false q = ltb-false _ _ q
 
 -- the first instruction that names x is the first word that does
-find_is : (named : Unpacked → Option ℕ) (x : ℕ) (listing : List ℕ) → Words listing → find (λ i. is (named (Is i)) x) (program listing) ≡ first_place named listing x
+find_is : (named : Option Instruction → Option ℕ) (x : ℕ) (listing : List ℕ) → Words listing → find (λ i. is (named (Some i)) x) (program listing) ≡ first_place named listing x
 unfolding find least
 find_is named x [] h = refl
 find_is named x (w ∷ ws) h =
     ap₂ (λ (t : Bool) (n : ℕ). cond t zero (suc n))
-    (ap (λ (u : Unpacked). is (named u) x) (sym (h 0 (omega arith))))
+    (ap (λ (u : Option Instruction). is (named u) x) (sym (h 0 (omega arith))))
     (find_is named x ws (λ i lt. h (suc i) (omega arith)))
 
 pub loop_at_lem : (l : Limits) (listing : List ℕ) (L : ℕ) → Tested l listing → loop_at (program listing) L ≡ loop_place listing L
 loop_at_lem l listing L tested = find_is loop_mark L listing (words l listing tested)
 
--- a label's mark stands where it is found
-pub label_at_lem : (l : Limits) (listing : List ℕ) (i B : ℕ) → Tested l listing → At listing i (lb B) → label_at (program listing) B ≡ i
-label_at_lem l listing i B tested a =
-    find_is label_mark B listing (words l listing tested)
-    ∙ kept_label l listing i B (all_kept l listing tested i (inside listing i (lb B) a)) a
-
 -- ---- the search for a label's word, which is its packing
-module _ (listing : List ℕ) (i B mark : ℕ) (marked : Marked listing B) (packs : mark ≡ packed (lb B)) where
-  pub the_mark : get_or listing i 0 ≡ mark → At listing i (lb B)
-  the_mark e =
-      let (j, a) = marked in
-      let (p, n) = (inverse (get_or listing j 0) (lb B)).0 a in
-      (inverse (get_or listing i 0) (lb B)).1 (sym (e ∙ packs), λ z. n (sym p ∙ sym packs ∙ sym e ∙ z))
+module _ (l : Limits) (listing : List ℕ) (B : ℕ) (tested : Tested l listing) (marked : label_place listing B < length listing) where
+  placed : label_at (program listing) B ≡ label_place listing B
+  placed = find_is label_mark B listing (words l listing tested)
 
-  pub no_mark : length listing ≤ i → ((k : ℕ) → k < i → get_or listing k 0 ≡ mark → ⊥) → ⊥
-  no_mark le none =
-      let (j, a) = marked in
-      none j (omega (arith, inside listing j (lb B) a)) (sym (packs ∙ ((inverse (get_or listing j 0) (lb B)).0 a).0))
+  pub label_inside : label_at (program listing) B < l.instructions
+  label_inside = omega (arith, placed, short_listing l listing tested)
+
+  module _ (mark : ℕ) (packs : mark ≡ packed (lb B)) where
+    -- a word is the mark's where the label stands
+    there : (i : ℕ) → At listing i (lb B) → get_or listing i 0 ≡ mark
+    there i a = sym (packs ∙ ((inverse (get_or listing i 0) (lb B)).0 a).0)
+
+    at_mark : At listing (label_place listing B) (lb B)
+    at_mark = label_there listing B (label_place listing B) (at_first label_mark listing B marked)
+
+    -- and at no place above
+    none_above : (i : ℕ) → i < label_place listing B → (get_or listing i 0 == mark) ≡ false
+    none_above i lt = ne_eqb _ _ other
+      where
+        other : get_or listing i 0 ≡ mark → ⊥
+        other e =
+            let (p, n) = (inverse (get_or listing (label_place listing B) 0) (lb B)).0 at_mark in
+            let a : At listing i (lb B) = (inverse (get_or listing i 0) (lb B)).1 (sym (e ∙ packs), λ z. n (sym p ∙ sym packs ∙ sym e ∙ z)) in
+            not_before label_mark listing B i lt (there_label listing B i a)
+
+    pub found : position (λ w. w == mark) listing ≡ Some (label_at (program listing) B)
+    found =
+        let first : position_or_len (λ w. w == mark) listing ≡ label_place listing B = position_or_len_is (λ w. w == mark) listing (label_place listing B) 0 (omega arith) none_above (λ lt. eq-eqb _ _ (there (label_place listing B) at_mark)) in
+        rw (first, lt-ltb _ _ marked) (ap Some (sym placed))

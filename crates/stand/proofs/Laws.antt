@@ -1,9 +1,10 @@
 -- Laws of runs, refusals counted: a position that a run leaves is bad only by its beat; runs one after the other are one run with the sum; what halted stays halted.
 -- Assumes nothing.
 use mathlib.Core.Path.{◌≡◌, refl, sym, ap, ap₂, subst, ◌∙◌}
-use mathlib.Core.Bool.{Bool, true, false, cond}
+use mathlib.Core.Bool.{Bool, true, false}
 use mathlib.Core.List.{List, [], ◌∷◌, ◌++◌, map}
-use mathlib.Core.Option.{Option, none, some}
+use mathlib.Core.Option.{none, some}
+use Rattle.std.specs.Prelude.{Option, Some, None, Ok, Err}
 use Prim.Native.Nat.{ℕ, ◌+◌, ◌≤◌, ◌<◌}
 use native.Mathlib.Omega.{arith}
 use lib.ListN.{length, get_or, get_elem?, take, drop, length-map, length-replicate, get_or-replicate, get_or-eq_default}
@@ -16,14 +17,11 @@ use Rattle.refusals.specs.declared.Refusal.TheVariants.{BadPosition}
 use Rattle.played.specs.declared.Played.{Played}
 use Rattle.instructions.specs.declared.Operation.TheVariants.{Repeat}
 use Rattle.instructions.specs.declared.Instruction.{Instruction}
-use Rattle.instructions.specs.declared.Unpacked.TheVariants.{Is}
-use Rattle.instructions.specs.declared.listing.Tested.{Tested}
-use Rattle.instructions.specs.declared.listing.Tested.TheVariants.{Good, Refused as BadListing}
 use Rattle.instructions.specs.Forms.{loop_of, loop, rep}
 use Rattle.instructions.specs.Words.{decoded}
 use Rattle.instructions.specs.Rules.{At}
 use Rattle.instructions.specs.Places.{loop_mark, loop_place}
-use Rattle.instructions.specs.Test.{test_listing, within}
+use Rattle.instructions.specs.Test.{within}
 use Rattle.instructions.proofs.Marks.{Form, as_block, as_loop, as_rep, as_lb, as_jmp, as_njmp, form, is_decoded, inside, loop_there, there_loop, at_first, not_before}
 use Rattle.instructions.proofs.Listings.{and_true, all_kept, kept_rep}
 use Rattle.machine.specs.declared.Position.{Position}
@@ -36,26 +34,27 @@ use Rattle.machine.proofs.Split.{in_parts, stays_halted}
 use Rattle.machine.proofs.Stays.{Repeats, Sound, Fits, stays}
 use Rattle.stand.specs.declared.Stop.{Stop}
 use Rattle.stand.specs.declared.Stop.TheVariants.{BufferFull, Halted}
-use Rattle.stand.specs.declared.Report.TheVariants.{Refused, Stopped}
+use Rattle.stand.specs.declared.Ended.{Ended}
 use Rattle.stand.specs.Positions.{Bad, beyond, above, not_there, late, position_fits}
-use Rattle.stand.specs.Steps.{program}
-use Rattle.stand.specs.Runs.{told, refused_by, refusal, written, outcome, Outcome, ran, decided, running}
+use Rattle.stand.specs.Steps.{program, Tested}
+use Rattle.stand.specs.Runs.{told, ended, refusal, written, outcome, Outcome, ran, decided, running}
 use Rattle.stand.specs.Chains.{Lent, sum, Chain, next}
 use Rattle.stand.specs.Chains as chains
 use Rattle.stand.proofs.Jumps.{words, loop_at_lem}
+use Rattle.stand.proofs.Opening.{passed}
 use Rattle.stand.proofs.Turning.{get_some, get_none}
 use Rattle.stand.proofs.Positions as fits
 
 -- ---- positions
 rep_form : (x : Instruction) (T : ℕ) → Form x → x.operation ≡ Repeat T → x ≡ rep (loop_of x) T
-rep_form x T (as_block k l) e = let z : ◌≡◌ {A = ℕ} 0 1 = cc in absurd (omega arith)
-rep_form x T (as_loop L) e = let z : ◌≡◌ {A = ℕ} 0 1 = cc in absurd (omega arith)
+rep_form x T (as_block k l) e = cc
+rep_form x T (as_loop L) e = cc
 rep_form x T (as_rep L S) e = let z : S ≡ T = cc in ap (rep L) z
-rep_form x T (as_lb B) e = let z : ◌≡◌ {A = ℕ} 0 1 = cc in absurd (omega arith)
-rep_form x T (as_jmp L S B) e = let z : ◌≡◌ {A = ℕ} 0 1 = cc in absurd (omega arith)
-rep_form x T (as_njmp L S B) e = let z : ◌≡◌ {A = ℕ} 0 1 = cc in absurd (omega arith)
+rep_form x T (as_lb B) e = cc
+rep_form x T (as_jmp L S B) e = cc
+rep_form x T (as_njmp L S B) e = cc
 
-module _ (l : Limits) (listing : List ℕ) (tested : test_listing l listing ≡ Good) where
+module _ (l : Limits) (listing : List ℕ) (tested : Tested l listing) where
   -- an instruction of the program is one of the listing
   at_program : (i : ℕ) (x : Instruction) → get_elem? (program listing) i ≡ some x → At listing i x
   at_program i x e = go (ltb i (length listing)) refl
@@ -67,13 +66,12 @@ module _ (l : Limits) (listing : List ℕ) (tested : test_listing l listing ≡ 
           subst (At listing i) same (words l listing tested i lt)
       go false q =
           let f : none ≡ some x = sym (get_none listing i (ltb-false _ _ q)) ∙ e in
-          let z : ◌≡◌ {A = ℕ} 0 1 = cc in
-          absurd (omega arith)
+          cc
 
   to_rep : (i L T : ℕ) → Repeats (program listing) i L T → At listing i (rep L T)
   to_rep i L T r =
       let a = at_program i r.instruction r.there in
-      a ∙ ap Is (rep_form r.instruction T (form _ r.instruction a) r.repeats ∙ ap (λ (K : ℕ). rep K T) r.loop)
+      a ∙ ap Some (rep_form r.instruction T (form _ r.instruction a) r.repeats ∙ ap (λ (K : ℕ). rep K T) r.loop)
 
   of_rep : (i L T : ℕ) → At listing i (rep L T) → Repeats (program listing) i L T
   of_rep i L T a =
@@ -106,11 +104,9 @@ module _ (l : Limits) (listing : List ℕ) (tested : test_listing l listing ≡ 
   unmarked L out i a = not_before loop_mark listing L i (omega (arith, inside listing i (loop L) a)) (there_loop listing L i a)
 
   no_place : (L : ℕ) → ((i : ℕ) → At listing i (loop L) → ⊥) → length listing ≤ loop_place listing L
-  no_place L no_mark = go (ltb (loop_place listing L) (length listing)) refl
-    where
-      go : (t : Bool) → ltb (loop_place listing L) (length listing) ≡ t → length listing ≤ loop_place listing L
-      go true q = absurd (no_mark (loop_place listing L) (loop_there listing L (loop_place listing L) (at_first loop_mark listing L (ltb-true _ _ q))))
-      go false q = ltb-false _ _ q
+  no_place L no_mark =
+      let h : loop_place listing L < length listing → ⊥ = λ lt. no_mark (loop_place listing L) (loop_there listing L (loop_place listing L) (at_first loop_mark listing L lt)) in
+      omega arith
 
   fitting : (p : Position) → position_fits l listing p ≡ true → Fits (program listing) p
   fitting p e =
@@ -133,28 +129,16 @@ module _ (l : Limits) (listing : List ℕ) (tested : test_listing l listing ≡ 
 
 -- ---- refusals
 module _ (l : Limits) (listing : List ℕ) where
-  -- a run that is not refused has a good listing and a good position
-  passed : (p : Position) → refusal l listing p ≡ none → (test_listing l listing ≡ Good) × (position_fits l listing p ≡ true)
-  passed p = by_test (test_listing l listing) refl
-    where
-      by_position : (t : Bool) → position_fits l listing p ≡ t → cond t none (some BadPosition) ≡ none → position_fits l listing p ≡ true
-      by_position true q e = q
-      by_position false q e = let z : ◌≡◌ {A = ℕ} 0 1 = cc in absurd (omega arith)
-
-      by_test : (t : Tested) → test_listing l listing ≡ t → refused_by l listing p t ≡ none → (test_listing l listing ≡ Good) × (position_fits l listing p ≡ true)
-      by_test (BadListing why) q e = let z : ◌≡◌ {A = ℕ} 0 1 = cc in absurd (omega arith)
-      by_test Good q e = (q, by_position (position_fits l listing p) refl e)
-
   -- a good listing can be run from the start
-  pub fresh_good : test_listing l listing ≡ Good → refusal l listing (fresh_of l) ≡ none
+  pub fresh_good : Tested l listing → refusal l listing (fresh_of l) ≡ None
   fresh_good t = rw (t, (fits.exactly l listing t (fresh_of l)).1 not_bad)
     where
       zeros : (L : ℕ) → get_or (fresh_of l).counts L 0 ≡ 0
-      zeros L = go (ltb L l.loops) refl
-        where
-          go : (b : Bool) → ltb L l.loops ≡ b → get_or (fresh_of l).counts L 0 ≡ 0
-          go true q = get_or-replicate l.loops L 0 0 (ltb-true _ _ q)
-          go false q = get_or-eq_default (fresh_of l).counts 0 (let x : l.loops ≤ L = ltb-false _ _ q in let n : length (fresh_of l).counts ≡ l.loops = length-replicate l.loops 0 in omega arith)
+      zeros L =
+          let inside : L < l.loops → get_or (fresh_of l).counts L 0 ≡ 0 = get_or-replicate l.loops L 0 0 in
+          let n : length (fresh_of l).counts ≡ l.loops = length-replicate l.loops 0 in
+          let past : l.loops ≤ L → get_or (fresh_of l).counts L 0 ≡ 0 = λ out. get_or-eq_default (fresh_of l).counts 0 (omega arith) in
+          grind (arith, inside, past)
 
       not_bad : Bad l listing (fresh_of l) → ⊥
       not_bad (beyond h) = omega arith
@@ -162,48 +146,48 @@ module _ (l : Limits) (listing : List ℕ) where
       not_bad (not_there L no_mark h) = h (zeros L)
       not_bad (late h) = omega arith
 
-  module _ (p : Position) (good : refusal l listing p ≡ none) (n room : ℕ) where
+  module _ (p : Position) (good : refusal l listing p ≡ None) (n room : ℕ) where
     abbrev now : Position
     now = (run (program listing) n room p).now
 
     -- the position that a run leaves is bad by its beat alone
     pub stays_good : Bad l listing now → l.beat < now.beat
     stays_good bad =
-        let (t, f) = passed p good in
+        let (t, f) = passed l listing p good in
         only_late l listing t now (stays (program listing) (sound l listing t) n room p (fitting l listing t p f)) bad
 
     -- so the next run is not refused while the beat is not above the limit
-    pub next_good : now.beat ≤ l.beat → refusal l listing now ≡ none
+    pub next_good : now.beat ≤ l.beat → refusal l listing now ≡ None
     next_good h =
-        let (t, f) = passed p good in
+        let (t, f) = passed l listing p good in
         let fit : position_fits l listing now ≡ true = (fits.exactly l listing t now).1 (λ bad. let x = stays_good bad in omega arith) in
         rw (t, fit)
 
     -- and is refused by 12 where it is
-    pub next_late : l.beat < now.beat → refusal l listing now ≡ some BadPosition
+    pub next_late : l.beat < now.beat → refusal l listing now ≡ Some BadPosition
     next_late h =
-        let (t, f) = passed p good in
+        let (t, f) = passed l listing p good in
         rw (t, not_fit (position_fits l listing now) refl)
       where
         not_fit : (b : Bool) → position_fits l listing now ≡ b → b ≡ false
-        not_fit true q = let (t, f) = passed p good in absurd (omega (arith, (fits.told l listing t now q).early))
+        not_fit true q = let (t, f) = passed l listing p good in absurd (omega (arith, (fits.told l listing t now q).early))
         not_fit false q = refl
 
   -- ---- runs one after the other
   -- what is told of a run that is not refused is the machine's
   record Told (p : Position) (a : Lent) (why : Stop) (steps entries : ℕ) (q : Position) (after : List Played) : Type 0 where
-    good : refusal l listing p ≡ none
-    same : ran (run (program listing) a.allowance (length a.play) p) a.play ≡ outcome (record { report = Stopped why steps entries; position = q }) after
+    good : refusal l listing p ≡ None
+    same : ran (run (program listing) a.allowance (length a.play) p) a.play ≡ outcome (Ok (ended why steps entries q)) after
 
   told_so : (p : Position) (a : Lent) (why : Stop) (steps entries : ℕ) (q : Position) (after : List Played)
-      → running l listing p a.allowance a.play ≡ outcome (record { report = Stopped why steps entries; position = q }) after
+      → running l listing p a.allowance a.play ≡ outcome (Ok (ended why steps entries q)) after
       → Told p a why steps entries q after
   unfolding running
   told_so p a why steps entries q after = go (refusal l listing p) refl
     where
-      go : (o : Option Refusal) → refusal l listing p ≡ o → decided l listing p a.allowance a.play o ≡ outcome (record { report = Stopped why steps entries; position = q }) after → Told p a why steps entries q after
-      go none e is = record { good = e; same = is }
-      go (some r) e is = let x : Refused r ≡ Stopped why steps entries = ap (λ (o : Outcome). o.answer.report) is in let z : ◌≡◌ {A = ℕ} 0 1 = cc in absurd (omega arith)
+      go : (o : Option Refusal) → refusal l listing p ≡ o → decided l listing p a.allowance a.play o ≡ outcome (Ok (ended why steps entries q)) after → Told p a why steps entries q after
+      go None e is = record { good = e; same = is }
+      go (Some r) e is = let x : Err r ≡ Ok (ended why steps entries q) = ap (λ (o : Outcome). o.answer) is in absurd cc
 
   abbrev part : Lent → Part
   part a = record { allowance = a.allowance; room = length a.play }
@@ -225,11 +209,12 @@ module _ (l : Limits) (listing : List ℕ) where
 
     linked : Told p a why n k q after → Runs q rest more ps r → Runs p (a ∷ rest) (n + more) (take k after ++ ps) r
     linked t h =
-        let now_is : first.now ≡ q = ap (λ (o : Outcome). o.answer.position) t.same in
-        let report : Stopped (told first.stop) first.steps (length first.plays) ≡ Stopped why n k = ap (λ (o : Outcome). o.answer.report) t.same in
-        let stops : told first.stop ≡ why = cc in
-        let steps_are : first.steps ≡ n = cc in
-        let entries_are : length first.plays ≡ k = cc in
+        let answer : Ok (ended (told first.stop) first.steps (length first.plays) first.now) ≡ Ok (ended why n k q) = ap (λ (o : Outcome). o.answer) t.same in
+        let same : ended (told first.stop) first.steps (length first.plays) first.now ≡ ended why n k q = cc in
+        let now_is : first.now ≡ q = ap (λ (e : Ended). e.position) same in
+        let stops : told first.stop ≡ why = ap (λ (e : Ended). e.stop) same in
+        let steps_are : first.steps ≡ n = ap (λ (e : Ended). e.steps) same in
+        let entries_are : length first.plays ≡ k = ap (λ (e : Ended). e.entries) same in
         let after_is : written first.plays a.play ≡ after = ap (λ (o : Outcome). o.play) t.same in
         let wrote : first.plays ≡ take k after = sym (take-append_seam first.plays (drop (length first.plays) a.play)) ∙ ap₂ take entries_are after_is in
         let rest_is : runs (program listing) (map part rest) first.now ≡ runs (program listing) (map part rest) q = ap (runs (program listing) (map part rest)) now_is in
@@ -247,10 +232,10 @@ module _ (l : Limits) (listing : List ℕ) where
 
   -- the runs one after the other, whatever their buffers held, are one run with the sum of the allowances, in any buffer with room
   pub one_run : (p q : Position) (lent : List Lent) (steps : ℕ) (plays : List Played) (play : List Played)
-      → refusal l listing p ≡ none
+      → refusal l listing p ≡ None
       → Chain l listing p lent steps plays q
       → length plays ≤ length play
-      → (why : Stop) × (running l listing p (sum lent) play ≡ outcome (record { report = Stopped why steps (length plays); position = q }) (written plays play))
+      → (why : Stop) × (running l listing p (sum lent) play ≡ outcome (Ok (ended why steps (length plays) q)) (written plays play))
   unfolding running
   one_run p q lent steps plays play good c fits_in =
       let h = chained p lent steps plays q c in
@@ -261,16 +246,16 @@ module _ (l : Limits) (listing : List ℕ) where
         told whole.stop,
         ap (decided l listing p (sum lent) play) good
             ∙ ap (λ (r : Ran). ran r play) all
-            ∙ ap₂ {C = Outcome} (λ n ps. outcome (record { report = Stopped (told whole.stop) n (length ps); position = whole.now }) (written ps play)) h.steps_are h.plays_are
-            ∙ ap (λ (x : Position). outcome (record { report = Stopped (told whole.stop) steps (length plays); position = x }) (written plays play)) h.now_is,
+            ∙ ap₂ {C = Outcome} (λ n ps. outcome (Ok (ended (told whole.stop) n (length ps) whole.now)) (written ps play)) h.steps_are h.plays_are
+            ∙ ap (λ (x : Position). outcome (Ok (ended (told whole.stop) steps (length plays) x)) (written plays play)) h.now_is,
       )
 
   -- a run that has halted stays so: the next one, not refused, does nothing, whatever its allowance and its buffer
   pub halted_stays : (p : Position) (allowance more : ℕ) (play other : List Played)
       → (run (program listing) allowance (length play) p).stop ≡ halted
-      → refusal l listing (run (program listing) allowance (length play) p).now ≡ none
+      → refusal l listing (run (program listing) allowance (length play) p).now ≡ None
       → running l listing (run (program listing) allowance (length play) p).now more other
-      ≡ outcome (record { report = Stopped Halted 0 0; position = (run (program listing) allowance (length play) p).now }) other
+      ≡ outcome (Ok (ended Halted 0 0 (run (program listing) allowance (length play) p).now)) other
   unfolding running
   halted_stays p allowance more play other e good =
       ap (decided l listing (run (program listing) allowance (length play) p).now more other) good

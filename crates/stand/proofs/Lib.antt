@@ -2,10 +2,9 @@
 mod Arms
 pub mod Positions
 mod Jumps
+mod Opening
 mod Stepping
 mod Turning
-mod Opening
-mod Lending
-mod Single
+mod Running
 pub mod Laws
 pub mod Examples

@@ -1,24 +1,26 @@
 -- Test 12 is what makes a position bad: of a good listing, the test holds exactly when nothing does.
 -- Assumes nothing.
-use mathlib.Core.Path.{◌≡◌, refl, ap, ◌∙◌}
+use mathlib.Core.Path.{◌≡◌, refl, sym, ap, ◌∙◌}
 use mathlib.Core.Logic.{◌↔◌}
-use mathlib.Core.Bool.{Bool, true, false, ◌&&◌}
-use mathlib.Core.List.{List}
-use Prim.Native.Nat.{ℕ, ◌≤◌, ◌<◌}
+use mathlib.Core.Bool.{Bool, true, false, cond, ◌&&◌}
+use mathlib.Core.List.{List, [], ◌∷◌}
+use Prim.Native.Nat.{ℕ, suc, ◌≤◌, ◌<◌}
 use native.Mathlib.Omega.{arith}
 use lib.ListN.{length, get_or, get_or-eq_default}
-use lib.Dec.{leb, ltb, eqb}
-use borrow.Author.Tests.{eqb-true, eqb-false, ltb-true, ltb-false, lt-ltb, leb-true, le-leb, lt-leb}
+use lib.Dec.{leb, ltb}
+use borrow.Author.Tests.{ltb-true, ltb-false, leb-true, le-leb, lt-leb}
 use Rattle.refusals.specs.Limits.{Limits}
-use Rattle.instructions.specs.declared.listing.Tested.TheVariants.{Good}
+use Rattle.std.proofs.lemmas.Bool.Decides.{nat_tests}
+use Rattle.std.specs.List.{list_all, zip}
+use Rattle.std.specs.Prelude.{Ok}
+use Rattle.instructions.specs.declared.listing.Looped.{Looped}
 use Rattle.instructions.specs.Forms.{loop, rep}
 use Rattle.instructions.specs.Words.{unpacked}
 use Rattle.instructions.specs.Rules.{At}
 use Rattle.instructions.specs.Places.{least, loop_mark, loop_repeat, loop_place, rep_place}
-use Rattle.instructions.specs.Test.{test_listing, table}
+use Rattle.instructions.specs.Test.{test_listing, table, places}
 use Rattle.instructions.specs.Tables.{FirstFrom}
-use Rattle.instructions.proofs.Least.{never, least_first, first_is_least}
-use Rattle.instructions.proofs.Tables.{table_at}
+use Rattle.instructions.proofs.Least.{least_first}
 use Rattle.instructions.proofs.Marks.{inside, rep_there, loop_there, at_first}
 use Rattle.instructions.proofs.Listings.{and_true, all_kept, kept_rep, kept_loop}
 use Rattle.machine.specs.declared.Position.{Position}
@@ -29,55 +31,69 @@ pub times_out : (listing : List ℕ) (i : ℕ) → length listing ≤ i → time
 unfolding unpacked
 times_out listing i h = rw (get_or-eq_default listing 0 h)
 
--- by the table of the `rep`s
-pub times_by_lem : (k : ℕ) (listing reps : List ℕ) (L t : ℕ)
-    → reps ≡ table k (rep_place listing)
-    → L < k
-    → t ≡ times_of (unpacked (get_or listing (get_or reps L 0) 0))
-    → t ≡ times listing L
-times_by_lem k listing reps L t is lt e = e ∙ ap (λ (i : ℕ). times_of (unpacked (get_or listing i 0))) (ap (λ (xs : List ℕ). get_or xs L 0) is ∙ table_at k (rep_place listing) L lt)
+-- ---- the pass over the loops beside their counts
+leb_suc : (a b : ℕ) → leb a b ≡ leb (suc a) (suc b)
+leb_suc a b = grind (arith, nat_tests)
 
--- ---- the pass over the counts
+module _ (rep_times : Looped → ℕ) where
+  passes : (f : ℕ → Looped) (counts : List ℕ)
+      → list_all (λ x. leb x.1 (rep_times x.0)) (zip (table (length counts) f) counts)
+      ≡ leb (length counts) (least (λ L. ltb (rep_times (f L)) (get_or counts L 0)) (length counts))
+  unfolding table least
+  passes f [] = refl
+  passes f (c ∷ cs) = go (ltb (rep_times (f 0)) c) refl (passes (λ k. f (suc k)) cs)
+    where
+      rest : Bool
+      rest = list_all (λ x. leb x.1 (rep_times x.0)) (zip (table (length cs) (λ k. f (suc k))) cs)
+
+      first : ℕ
+      first = least (λ L. ltb (rep_times (f (suc L))) (get_or cs L 0)) (length cs)
+
+      go : (t : Bool) → ltb (rep_times (f 0)) c ≡ t → rest ≡ leb (length cs) first → (leb c (rep_times (f 0)) && rest) ≡ leb (suc (length cs)) (cond (ltb (rep_times (f 0)) c) 0 (suc first))
+      go true e h = rw (e, lt-leb _ _ (ltb-true _ _ e)) (sym (lt-leb _ _ (omega arith)))
+      go false e h = rw (e, le-leb _ _ (ltb-false _ _ e)) (h ∙ leb_suc (length cs) first)
+
+counts_are : (k : ℕ) (listing : List ℕ) (loops : List Looped) (counts : List ℕ)
+    → loops ≡ table k (places listing)
+    → length counts ≡ k
+    → list_all (λ x. leb x.1 (times_of (unpacked (get_or listing x.0.rep 0)))) (zip loops counts) ≡ counts_fit listing counts
+counts_are k listing loops counts is long =
+    ap (λ (xs : List Looped). list_all (λ x. leb x.1 (times_of (unpacked (get_or listing x.0.rep 0)))) (zip xs counts)) (is ∙ ap (λ (n : ℕ). table n (places listing)) (sym long))
+    ∙ passes (λ x. times_of (unpacked (get_or listing x.rep 0))) (places listing) counts
+
+-- where place and beat are inside, the counts decide
+pub counts_decide : (l : Limits) (listing : List ℕ) (loops : List Looped) (p : Position) (r : Bool)
+    → p.next ≤ length listing
+    → p.beat ≤ l.beat
+    → loops ≡ table l.loops (places listing)
+    → length p.counts ≡ l.loops
+    → r ≡ list_all (λ x. leb x.1 (times_of (unpacked (get_or listing x.0.rep 0)))) (zip loops p.counts)
+    → r ≡ position_fits l listing p
+unfolding position_fits
+counts_decide l listing loops p r near early is long e = rw (le-leb _ _ near, le-leb _ _ early) (e ∙ counts_are l.loops listing loops p.counts is long)
+
+-- ---- what it says of each count
 module _ (listing counts : List ℕ) where
   abbrev over : ℕ → Bool
   over L = ltb (times listing L) (get_or counts L 0)
 
-  -- none of the counts passed is above its T
-  abbrev pub Low : ℕ → Type 0
-  Low i = (L : ℕ) → L < i → get_or counts L 0 ≤ times listing L
+  first : FirstFrom over 0 (length counts) (least over (length counts))
+  first = least_first over (length counts)
 
-  pub all_low : (i : ℕ) → length counts ≤ i → Low i → counts_fit listing counts ≡ true
-  all_low i h low = let e : length counts ≡ least over (length counts) = first_is_least over (length counts) (length counts) first in le-leb (length counts) (least over (length counts)) (omega arith)
-    where
-      first : FirstFrom over 0 (length counts) (length counts)
-      first = record { low = omega arith; high = omega arith; before = λ j a b. not_over j (omega arith); found = λ lt. absurd (omega arith) }
-        where
-          not_over : (j : ℕ) → j < i → over j ≡ false
-          not_over j lt = go (over j) refl
-            where
-              go : (t : Bool) → over j ≡ t → t ≡ false
-              go true e = absurd (let x : times listing j < get_or counts j 0 = ltb-true _ _ e in omega (arith, low j lt))
-              go false e = refl
-
-  pub one_high : (L : ℕ) → L < length counts → times listing L < get_or counts L 0 → counts_fit listing counts ≡ false
-  one_high L lt h = lt-leb _ _ (go (ltb (least over (length counts)) (length counts)) refl)
-    where
-      first : FirstFrom over 0 (length counts) (least over (length counts))
-      first = least_first over (length counts)
-
-      go : (t : Bool) → ltb (least over (length counts)) (length counts) ≡ t → least over (length counts) < length counts
-      go true e = ltb-true _ _ e
-      go false e = never (over L) (lt-ltb _ _ h) (first.before L (omega arith) (let x : length counts ≤ least over (length counts) = ltb-false _ _ e in omega arith))
+  all_low : ((L : ℕ) → get_or counts L 0 ≤ times listing L) → counts_fit listing counts ≡ true
+  all_low low =
+      let none : least over (length counts) < length counts → ⊥ = λ lt. omega (arith, low (least over (length counts)), ltb-true _ _ (first.found lt)) in
+      le-leb _ _ (omega arith)
 
   low_all : counts_fit listing counts ≡ true → (L : ℕ) → get_or counts L 0 ≤ times listing L
   low_all e L = go (ltb L (length counts)) refl
     where
       go : (t : Bool) → ltb L (length counts) ≡ t → get_or counts L 0 ≤ times listing L
-      go true q = let x : (times listing L < get_or counts L 0 → ⊥) = λ h. never (counts_fit listing counts) e (one_high L (ltb-true _ _ q) h) in omega arith
+      go true q = ltb-false _ _ (first.before L (omega arith) (omega (arith, ltb-true _ _ q, leb-true _ _ e)))
       go false q = rw (get_or-eq_default counts 0 (ltb-false _ _ q)) (omega arith)
 
 -- ---- of a good listing
-module _ (l : Limits) (listing : List ℕ) (tested : test_listing l listing ≡ Good) where
+module _ (l : Limits) (listing : List ℕ) (tested : test_listing l listing ≡ Ok tt) where
   -- the T of a `rep` is its loop's
   pub rep_times : (i L T : ℕ) → At listing i (rep L T) → times listing L ≡ T
   rep_times i L T a =
@@ -86,14 +102,13 @@ module _ (l : Limits) (listing : List ℕ) (tested : test_listing l listing ≡ 
 
   -- a loop that is not there has no T
   pub no_times : (L : ℕ) → ((i : ℕ) → At listing i (loop L) → ⊥) → times listing L ≡ 0
-  no_times L none = go (ltb (rep_place listing L) (length listing)) refl
+  no_times L none = times_out listing (rep_place listing L) (let h = marked in omega arith)
     where
-      go : (t : Bool) → ltb (rep_place listing L) (length listing) ≡ t → times listing L ≡ 0
-      go true q =
-          let (T, a) = rep_there listing L (rep_place listing L) (at_first loop_repeat listing L (ltb-true _ _ q)) in
-          let k = kept_rep l listing (rep_place listing L) L T (all_kept l listing tested (rep_place listing L) (ltb-true _ _ q)) a in
-          absurd (none (loop_place listing L) (loop_there listing L (loop_place listing L) (at_first loop_mark listing L (let x : rep_place listing L < length listing = ltb-true _ _ q in omega (arith, k.1)))))
-      go false q = times_out listing (rep_place listing L) (ltb-false _ _ q)
+      marked : rep_place listing L < length listing → ⊥
+      marked lt =
+          let (T, a) = rep_there listing L (rep_place listing L) (at_first loop_repeat listing L lt) in
+          let k = kept_rep l listing (rep_place listing L) L T (all_kept l listing tested (rep_place listing L) lt) a in
+          none (loop_place listing L) (loop_there listing L (loop_place listing L) (at_first loop_mark listing L (omega (arith, k.1))))
 
   -- a loop that is there has a `rep`
   there_rep : (i L : ℕ) → At listing i (loop L) → (T : ℕ) × At listing (rep_place listing L) (rep L T)
@@ -112,8 +127,7 @@ module _ (l : Limits) (listing : List ℕ) (tested : test_listing l listing ≡ 
     unfolding position_fits
     told e =
         let x = and_true (leb p.next (length listing) && leb p.beat l.beat) (counts_fit listing p.counts) e in
-        let y = and_true (leb p.next (length listing)) (leb p.beat l.beat) x.0 in
-        record { near = leb-true _ _ y.0; early = leb-true _ _ y.1; low = low_all listing p.counts x.1 }
+        record { near = grind (arith, nat_tests, x.0); early = grind (arith, nat_tests, x.0); low = low_all listing p.counts x.1 }
 
     fits_not_bad : position_fits l listing p ≡ true → Bad l listing p → ⊥
     fits_not_bad e (beyond h) = let x = (told e).near in omega arith
@@ -123,7 +137,7 @@ module _ (l : Limits) (listing : List ℕ) (tested : test_listing l listing ≡ 
 
     not_bad_fits : (Bad l listing p → ⊥) → position_fits l listing p ≡ true
     unfolding position_fits
-    not_bad_fits good = rw (le-leb p.next (length listing) near, le-leb p.beat l.beat early) (all_low listing p.counts (length p.counts) (omega arith) (λ L lt. low L))
+    not_bad_fits good = rw (le-leb p.next (length listing) near, le-leb p.beat l.beat early) (all_low listing p.counts low)
       where
         near : p.next ≤ length listing
         near = let h : (length listing < p.next → ⊥) = λ lt. good (beyond lt) in omega arith
@@ -132,21 +146,18 @@ module _ (l : Limits) (listing : List ℕ) (tested : test_listing l listing ≡ 
         early = let h : (l.beat < p.beat → ⊥) = λ lt. good (late lt) in omega arith
 
         low : (L : ℕ) → get_or p.counts L 0 ≤ times listing L
-        low L = go (ltb (rep_place listing L) (length listing)) refl
+        low L = grind (arith, repeated, absent)
           where
-            go : (t : Bool) → ltb (rep_place listing L) (length listing) ≡ t → get_or p.counts L 0 ≤ times listing L
-            go true q =
-                let (T, a) = rep_there listing L (rep_place listing L) (at_first loop_repeat listing L (ltb-true _ _ q)) in
-                let h : (T < get_or p.counts L 0 → ⊥) = λ lt. good (above (rep_place listing L) L T a lt) in
+            repeated : rep_place listing L < length listing → get_or p.counts L 0 ≤ times listing L
+            repeated lt =
+                let (T, a) = rep_there listing L (rep_place listing L) (at_first loop_repeat listing L lt) in
+                let h : (T < get_or p.counts L 0 → ⊥) = λ more. good (above (rep_place listing L) L T a more) in
                 let y = rep_times (rep_place listing L) L T a in
                 omega arith
-            go false q = none (eqb (get_or p.counts L 0) 0) refl
-              where
-                none : (t : Bool) → eqb (get_or p.counts L 0) 0 ≡ t → get_or p.counts L 0 ≤ times listing L
-                none true z = let e : get_or p.counts L 0 ≡ 0 = eqb-true _ _ z in omega arith
-                none false z =
-                    absurd
-                    (good (not_there L (λ i a. let (T, b) = there_rep i L a in let m = inside listing (rep_place listing L) (rep L T) b in let o : length listing ≤ rep_place listing L = ltb-false _ _ q in omega arith) (eqb-false _ _ z)))
+
+            absent : length listing ≤ rep_place listing L → 0 < get_or p.counts L 0 → ⊥
+            absent out more =
+                good (not_there L (λ i a. let (T, b) = there_rep i L a in let m = inside listing (rep_place listing L) (rep L T) b in omega arith) (λ z. omega arith))
 
     -- the position is refused exactly when it is bad
     pub exactly : (position_fits l listing p ≡ true) ↔ (Bad l listing p → ⊥)

@@ -3,3 +3,4 @@ pub mod Steps
 pub mod Runs
 pub mod Chains
 pub mod Turns
+pub mod Printed

@@ -1,11 +1,10 @@
 -- Refusal 12: what makes a saved position bad, and its test; of a good listing they are the same (proofs/Positions.antt).
 -- Assumes nothing.
-use Rattle.std.specs.Prelude.{◌≡◌, Bool, ◌&&◌, List, ℕ, ◌<◌, length, get_or, leb, ltb}
+use Rattle.std.specs.Prelude.{◌≡◌, Bool, ◌&&◌, List, ℕ, ◌<◌, length, get_or, leb, ltb, Option, Some, None}
 use Rattle.refusals.specs.Limits.{Limits}
 use Rattle.instructions.specs.declared.Operation.{Operation}
 use Rattle.instructions.specs.declared.Operation.TheVariants.{Block, Loop, Repeat, Label, Jump, JumpUnless}
-use Rattle.instructions.specs.declared.Unpacked.{Unpacked}
-use Rattle.instructions.specs.declared.Unpacked.TheVariants.{Is, Nothing}
+use Rattle.instructions.specs.declared.Instruction.{Instruction}
 use Rattle.instructions.specs.Forms.{loop, rep}
 use Rattle.instructions.specs.Words.{unpacked}
 use Rattle.instructions.specs.Rules.{At}
@@ -33,9 +32,9 @@ times_by (Jump T) = 0
 times_by (JumpUnless T) = 0
 
 -- the same of what a word is
-abbrev pub times_of : Unpacked → ℕ
-times_of (Is x) = times_by x.operation
-times_of Nothing = 0
+abbrev pub times_of : Option Instruction → ℕ
+times_of (Some x) = times_by x.operation
+times_of None = 0
 
 -- T of loop L's `rep`, 0 where it has none
 abbrev pub times : List ℕ → ℕ → ℕ

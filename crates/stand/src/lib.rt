@@ -1,19 +1,21 @@
 // The stand: runs a listing, and writes what it plays into a lent buffer.
 #![tactic(auto)]
 
-mod plain;
-mod position;
+ghost use Rattle.std.specs.Prelude.{Some};
+ghost use Rattle.stand.specs.Printed.{printed_stop, printed};
+
+mod chunk;
+mod program;
 mod runner;
 mod step;
-mod turn;
 
+pub use chunk::{CHUNK, Chunk, run_chunk};
 use machine::Position;
-pub use plain::{CHUNK, Chunk, Next, run_chunk, run_next};
-use refusals::Refusal;
 pub use runner::run;
+use std::fmt;
 
 // Why a run stopped.
-#[derive(Clone, Copy)]
+#[derive(Clone, Copy, Debug, PartialEq, Eq)]
 pub enum Stop {
     // Past the last instruction.
     Halted,
@@ -23,18 +25,38 @@ pub enum Stop {
     BufferFull,
 }
 
-// What a run reports.
-#[derive(Clone, Copy)]
-pub enum Report {
-    // The listing or the position is refused.
-    Refused(Refusal),
-    // Why it stopped, the steps done and the entries written.
-    Stopped(Stop, u32, usize),
+impl fmt::Display for Stop {
+    ghost output = { λ s. Some (printed_stop s) };
+
+    fn fmt<W: fmt::Write>(&self, f: &mut fmt::Formatter<W>) -> fmt::Result {
+        f.write_str(match self {
+            Stop::Halted => "halted",
+            Stop::AllowanceUsed => "used",
+            Stop::BufferFull => "full",
+        })
+    }
 }
 
-// The report, and beside it the new position; all zero where the run is refused.
-#[derive(Clone, Copy)]
-pub struct Answer {
-    pub report: Report,
+// What a run reports: why it stopped, the steps done, the entries written, and the new position.
+#[derive(Clone, Copy, Debug, PartialEq, Eq)]
+pub struct Ended {
+    pub stop: Stop,
+    pub steps: u32,
+    pub entries: usize,
     pub position: Position,
+}
+
+impl fmt::Display for Ended {
+    ghost output = { λ e. Some (printed e) };
+
+    fn fmt<W: fmt::Write>(&self, f: &mut fmt::Formatter<W>) -> fmt::Result {
+        let Ended {
+            stop,
+            steps,
+            entries,
+            position,
+        } = self;
+        let Position { next, beat, .. } = position;
+        write!(f, "{stop} {steps} {entries} {next} {beat}")
+    }
 }

@@ -1,137 +1,86 @@
 // A run into a lent play buffer.
-ghost use Rattle.std.specs.Prelude.{◌≡◌, ◌≤◌, length};
+ghost use Rattle.std.specs.Prelude.{◌≡◌, ◌+◌, ◌*◌, ◌<◌, ◌≤◌, ◌^◌, length, Ok};
 ghost use Rattle.refusals.specs.Limits.{document01};
 ghost use Rattle.machine.specs.Machine.{run};
-ghost use Rattle.stand.specs.Steps.{program, standing, Checked};
-ghost use Rattle.stand.specs.Runs.{refusing, outcome, ran, running};
-ghost use Rattle.stand.specs.Turns.{place_of, left, leaves, telling, opened};
+ghost use Rattle.stand.specs.Runs.{outcome, ran, running};
+ghost use Rattle.stand.specs.Steps.{program};
+ghost use Rattle.stand.specs.Turns.{Turned};
 
-use crate::position::fits;
-use crate::step::Place;
-use crate::turn::{Done, begin, take_turn};
-use crate::{Answer, Report};
-use instructions::listing::{Tested, check};
-use machine::{Position, fresh};
+use crate::program::Program;
+use crate::{Ended, Stop};
+use instructions::{Instruction, Operation};
+use machine::Position;
 use played::Played;
-use refusals::{LOOPS, Refusal};
+use refusals::Refusal;
 
-// Whether tests 11 and 12 refuse, the answer if they do, and the place of each loop's mark.
-#[derive(Clone, Copy)]
-pub(crate) struct Opened {
-    pub refused: bool,
-    pub answer: Answer,
-    pub marks: [usize; LOOPS],
-}
-
-// A refusal, with a position that is all zero.
-fn refuse(why: Refusal) -> Answer
-    ensures { result ≡ refusing document01 why }
-{
-    let position = fresh();
-    Answer {
-        report: Report::Refused(why),
-        position,
-    }
-}
-
-// Tests 11 and 12.
-pub(crate) fn open(listing: &[u64], position: Position) -> Opened
-    ensures { result ≡ opened document01 listing.now position }
-{
-    let checked = check(listing);
-    let marks = checked.marks;
-    let reps = checked.reps;
-    let tested = checked.tested;
-    if let Tested::Refused(why) = tested {
-        let answer = refuse(why);
-        return Opened {
-            refused: true,
-            answer,
-            marks,
+impl Program<'_> {
+    // Halted, allowance used or play buffer full, tested in that order; else one step, and the entry that it plays.
+    #[tactic(auto, using(crate::proofs::Turning::halts, crate::proofs::Turning::uses, crate::proofs::Turning::fills))]
+    fn turn(
+        &self,
+        position: &mut Position,
+        allowance: u32,
+        room: usize,
+    ) -> Result<Option<Played>, Stop>
+        requires { position.old.beat + allowance * document01.number < 2 ^ 64 }
+        ensures { Turned document01 (program self.now.listing.now) allowance room position.old result position.new }
+    {
+        let Some(word) = self.listing.get(position.next as usize) else {
+            return Err(Stop::Halted);
         };
-    }
-    let refused = !fits(listing, &reps, position);
-    let answer = refuse(Refusal::BadPosition);
-    Opened {
-        refused,
-        answer,
-        marks,
-    }
-}
-
-// The position's place.
-pub(crate) fn place_of(p: Position) -> Place
-    ensures { result ≡ place_of p }
-{
-    Place {
-        next: p.next,
-        beat: p.beat,
-    }
-}
-
-// What was done, with the counts that it left.
-pub(crate) fn tell(done: Done, counts: [u16; LOOPS]) -> Answer
-    ensures { result ≡ telling done counts }
-{
-    let stop = done.stop;
-    let place = done.place;
-    let position = Position {
-        next: place.next,
-        counts,
-        beat: place.beat,
-    };
-    Answer {
-        report: Report::Stopped(stop, done.steps, done.entries),
-        position,
-    }
-}
-
-// Runs from a place, with the counts and the buffer lent.
-fn run_lent(
-    listing: &[u64],
-    marks: &[usize; LOOPS],
-    from: Place,
-    allowance: u32,
-    counts: &mut [u16; LOOPS],
-    play: &mut [Played],
-) -> Done
-    requires { Checked document01 listing.now marks.now × (from.beat ≤ document01.beat) }
-    ensures { left result counts.new play.new ≡ leaves (run (program listing.now) allowance (length play.old) (standing from counts.old)) play.old }
-{
-    let mut s = begin(from, allowance, play.len());
-    while s.more {
-        s = take_turn(listing, marks, s, &mut *counts);
-        if s.writes {
-            play[s.to] = s.entry;
+        if allowance == 0 {
+            return Err(Stop::AllowanceUsed);
         }
+        let instruction = Instruction::decode(*word);
+        let entry = match instruction.operation {
+            Operation::Block(_, _) if room == 0 => return Err(Stop::BufferFull),
+            Operation::Block(k, l) => Some(Played {
+                k,
+                l,
+                z: position.beat,
+            }),
+            _ => None,
+        };
+        self.execute(instruction, position);
+        Ok(entry)
     }
-    s.done
-}
 
-// Runs a good listing from a good position.
-fn run_good(
-    listing: &[u64],
-    marks: [usize; LOOPS],
-    position: Position,
-    allowance: u32,
-    play: &mut [Played],
-) -> Answer
-    requires { Checked document01 listing.now marks × (position.beat ≤ document01.beat) }
-    ensures { outcome result play.new ≡ ran (run (program listing.now) allowance (length play.old) position) play.old }
-{
-    let mut counts = position.counts;
-    let from = place_of(position);
-    let done = run_lent(listing, &marks, from, allowance, &mut counts, play);
-    tell(done, counts)
+    // Runs from the position, and writes each block that it plays into the buffer.
+    fn run(&self, mut position: Position, allowance: u32, play: &mut [Played]) -> Ended
+        requires { position.beat ≤ document01.beat }
+        ensures { outcome (Ok result) play.new ≡ ran (run (program self.now.listing.now) allowance (length play.old) position) play.old }
+    {
+        let mut entries = 0;
+        for steps in 0..=allowance {
+            match self.turn(&mut position, allowance - steps, play.len() - entries) {
+                Ok(Some(entry)) => {
+                    play[entries] = entry;
+                    entries += 1;
+                }
+                Ok(None) => {}
+                Err(stop) => {
+                    return Ended {
+                        stop,
+                        steps,
+                        entries,
+                        position,
+                    };
+                }
+            }
+        }
+        unreachable!()
+    }
 }
 
 // Runs a listing from a position for at most so many steps, and writes each block that it plays into the buffer.
-pub fn run(listing: &[u64], position: Position, allowance: u32, play: &mut [Played]) -> Answer
+pub fn run(
+    listing: &[u64],
+    position: Position,
+    allowance: u32,
+    play: &mut [Played],
+) -> Result<Ended, Refusal>
     ensures { outcome result play.new ≡ running document01 listing.now position allowance play.old }
 {
-    let opened = open(listing, position);
-    if opened.refused {
-        return opened.answer;
-    }
-    run_good(listing, opened.marks, position, allowance, play)
+    let program = Program::open(listing, &position)?;
+    Ok(program.run(position, allowance, play))
 }

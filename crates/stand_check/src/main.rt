@@ -2,7 +2,7 @@
 #![tactic(auto)]
 
 mod cases;
-mod words;
+mod shorthand;
 
 use std::io;
 

@@ -2,39 +2,17 @@
 
 #![tactic(auto)]
 
-ghost use Rattle.std.specs.Prelude.{◌≤◌, length};
+ghost use Rattle.std.specs.Prelude.{◌≡◌, ◌≤◌, length, take, IfOk};
+ghost use Rattle.std.specs.Io.KnownBytes.{Consumes};
+ghost use Rattle.tidy.specs.Tidy.{tidied, tidied_buffer};
 
-use reading::Reading;
 use refusals::{BYTES, Refusal, SIGNS};
 use std::io::{self, ErrorKind, Read};
-use writing::Written;
-
-// Prints a refusal's number and place.
-fn refuse(rt: &impl Print, r: Refusal) -> io::Result<()> {
-    println!(rt; "refused {} {}", refusals::number(r), refusals::place(r))
-}
-
-// Prints the signs of the words, or why they can't be written.
-fn write(rt: &impl Print, words: &[u64]) -> io::Result<()> {
-    let mut out = [0u8; BYTES];
-    match writing::write_signs(words, &mut out) {
-        Written::Bytes(n) => rt.write_all(&out[..n]),
-        Written::Refused(r) => refuse(rt, r),
-    }
-}
-
-// Prints the signs of a text, or why they can't be read.
-fn tidy(rt: &impl Print, text: &[u8]) -> io::Result<()> {
-    let mut words = [0u64; SIGNS];
-    match reading::read_signs(text, &mut words) {
-        Reading::Signs(n) => write(rt, &words[..n]),
-        Reading::Refused(r) => refuse(rt, r),
-    }
-}
 
 // Fills the buffer from the input, and says how many bytes came; a read that fails is the end of the input.
-fn fill(input: &mut impl Read, text: &mut [u8]) -> usize
-    ensures { result ≤ length text.new }
+fn fill<R: Read>(input: &mut R, text: &mut [u8]) -> usize
+    ensures within { result ≤ length text.new }
+    ensures bytes { Consumes (R.remaining input.old) (R.remaining input.new) (take result text.new) }
 {
     let mut n = 0;
     for _ in 0..u64::MAX {
@@ -54,8 +32,24 @@ fn fill(input: &mut impl Read, text: &mut [u8]) -> usize
     n
 }
 
+// Writes the signs of a text into a buffer; answers how many bytes there are.
+#[tactic(auto, using(crate::proofs::Words::words_read, crate::proofs::Words::words_written))]
+fn tidy(text: &[u8], out: &mut [u8]) -> Result<usize, Refusal>
+    ensures answer { result ≡ tidied text.now (length out.old) }
+    ensures buffer { out.new ≡ tidied_buffer text.now out.old }
+    ensures within { IfOk result (λ n. n ≤ length out.new) }
+{
+    let mut words = [0u64; SIGNS];
+    let n = reading::read_signs(text, &mut words)?;
+    writing::write_signs(&words[..n], out)
+}
+
 fn main(rt: HostRuntime) -> io::Result<()> {
     let mut text = [0u8; BYTES + 1];
+    let mut out = [0u8; BYTES];
     let n = fill(&mut rt.stdin(), &mut text);
-    tidy(&rt, &text[..n])
+    match tidy(&text[..n], &mut out) {
+        Ok(n) => rt.write_all(&out[..n]),
+        Err(refusal) => println!(rt; "{refusal}"),
+    }
 }

@@ -6,7 +6,7 @@ use Rattle.score.specs.Trees.{Left, written, lacking, Run, nil, ◌▸◌, Item,
 use Rattle.score.specs.Trees.{block as written-block}
 use Rattle.score.specs.declared.Shape.{Shape}
 use Rattle.score.specs.declared.Shape.TheVariants.{Straight, DaCapo, DalSegno, DaCapoFine, DalSegnoFine, DaCapoCoda, DalSegnoCoda}
-use Rattle.score.specs.declared.Time.TheVariants.{Untimed}
+use Rattle.std.specs.Prelude.{None as Untimed}
 use Rattle.score.specs.Shapes.{Score, score}
 use Rattle.instructions.specs.declared.Instruction.{Instruction}
 use Rattle.instructions.specs.Forms.{block, loop, rep, lb, jmp, njmp}

@@ -9,10 +9,10 @@ use lib.ListN.{length, length-map}
 use Rattle.refusals.specs.Limits.{Limits, document01}
 use Rattle.score.specs.Trees.{Run}
 use Rattle.score.specs.declared.Shape.{Shape}
-use Rattle.score.specs.declared.Time.{Time}
+use Rattle.score.specs.Times.{Time}
 use Rattle.score.specs.Shapes.{Score, score}
 use Rattle.instructions.specs.declared.Instruction.{Instruction}
-use Rattle.instructions.specs.declared.listing.Tested.TheVariants.{Good}
+use Rattle.std.specs.Prelude.{Ok}
 use Rattle.instructions.specs.Words.{packed}
 use Rattle.instructions.specs.Test.{test_listing}
 use Rattle.translation.specs.Listing.{code, listing_of}
@@ -70,9 +70,9 @@ module _ (m : Limits) (room : Roomy m) where
         labels = once_cast refl (zero-add _) (once_labels once L 0 0);
       }
 
-  pub passes_11 : (t : Score) → Within m t → test_listing m (listing_of t) ≡ Good
+  pub passes_11 : (t : Score) → Within m t → test_listing m (listing_of t) ≡ Ok tt
   passes_11 (score t h a b c d) w = ap (λ (p : List Instruction). test_listing m (map packed p)) (same_code t h a b c d) ∙ passes_test room.packs (tidy t h a b c d w)
 
 -- The listing of a score within document 01's limits passes test 11, and has at most 2,048 instructions.
-pub good_listing : (t : Score) → Within document01 t → (test_listing document01 (listing_of t) ≡ Good) × (length (listing_of t) ≤ document01.instructions)
+pub good_listing : (t : Score) → Within document01 t → (test_listing document01 (listing_of t) ≡ Ok tt) × (length (listing_of t) ≤ document01.instructions)
 good_listing t w = (passes_11 document01 roomy t w, let s = short t in let n = length-map (code t) packed in let k = w.signs in omega arith)

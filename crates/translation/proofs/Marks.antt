@@ -3,7 +3,7 @@
 use mathlib.Core.Path.{◌≡◌, refl, sym, ap, ◌∙◌}
 use mathlib.Core.Bool.{Bool, true, false, cond}
 use mathlib.Core.List.{List, [], ◌∷◌, ◌++◌}
-use mathlib.Core.Option.{Option, none, some}
+use mathlib.Core.Option.{some}
 use Prim.Native.Nat.{ℕ, zero, suc, ◌+◌, ◌≤◌, ◌<◌}
 use native.Mathlib.Nat.{zero-add, add-zero, suc-add, add-suc}
 use native.Mathlib.Numerals.{add-one}
@@ -11,6 +11,7 @@ use native.Mathlib.Omega.{arith}
 use lib.ListN.{length, get_elem?}
 use lib.Dec.{eqb, ltb}
 use borrow.Author.Tests.{eqb-true, eqb-false, eq-eqb, ne_eqb, ltb-true, ltb-false}
+use Rattle.std.specs.Prelude.{Option, Some, None}
 use Rattle.instructions.specs.declared.Instruction.{Instruction}
 use Rattle.instructions.specs.Forms.{loop_of, label_of}
 use Rattle.instructions.specs.Places.{marks_loop, repeats_loop, marks_label, is}
@@ -140,8 +141,8 @@ abbrev pub label_mark : Instruction → Option ℕ
 label_mark i = marks_label i.operation (label_of i)
 
 abbrev put : Option ℕ → List ℕ → List ℕ
-put none ns = ns
-put (some n) ns = n ∷ ns
+put None ns = ns
+put (Some n) ns = n ∷ ns
 
 abbrev pub numbers : (Instruction → Option ℕ) → List Instruction → List ℕ
 numbers f [] = []
@@ -153,8 +154,8 @@ counting l zero = []
 counting l (suc n) = l ∷ counting (suc l) n
 
 put-append : (o : Option ℕ) (ns ms : List ℕ) → put o (ns ++ ms) ≡ put o ns ++ ms
-put-append none ns ms = refl
-put-append (some n) ns ms = refl
+put-append None ns ms = refl
+put-append (Some n) ns ms = refl
 
 pub numbers-append : (f : Instruction → Option ℕ) (u v : List Instruction) → numbers f (u ++ v) ≡ numbers f u ++ numbers f v
 numbers-append f [] v = refl
@@ -178,8 +179,8 @@ often_among f k [] = refl
 often_among f k (i ∷ u) = go (f i) (often_among f k u)
   where
     go : (o : Option ℕ) → often (λ i. is (f i) k) u ≡ among k (numbers f u) → cond (is o k) 1 0 + often (λ i. is (f i) k) u ≡ among k (put o (numbers f u))
-    go none e = omega arith
-    go (some n) e = omega arith
+    go None e = omega arith
+    go (Some n) e = omega arith
 
 -- a number is among those that are counted once, or not at all
 counted : (l n k : ℕ) → ((l ≤ k → k < l + n → among k (counting l n) ≡ 1) × ((l ≤ k → k < l + n → ⊥) → among k (counting l n) ≡ 0))

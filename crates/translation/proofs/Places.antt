@@ -7,7 +7,7 @@ use Prim.Native.Nat.{ℕ, zero, suc, ◌+◌, ◌≤◌, ◌<◌}
 use native.Mathlib.Omega.{arith}
 use lib.ListN.{length, get_or, length-append}
 use Rattle.instructions.specs.declared.Instruction.{Instruction}
-use Rattle.instructions.specs.declared.Unpacked.TheVariants.{Is}
+use Rattle.std.specs.Prelude.{Some}
 use Rattle.instructions.specs.Words.{packed, unpacked}
 use Rattle.instructions.specs.Rules.{At}
 use Rattle.instructions.proofs.Inverse.{inverse}
@@ -28,7 +28,7 @@ pub stood : (prog : List Instruction) (i : ℕ) (x : Instruction) → At (map pa
 stood [] i x a = absurd (((inverse 0 x).0 a).1 refl)
 stood (j ∷ prog) zero x a =
     let p = (inverse (packed j) x).0 a in
-    let q : unpacked (packed j) ≡ Is j = (inverse (packed j) j).1 (refl, p.1) in
+    let q : unpacked (packed j) ≡ Some j = (inverse (packed j) j).1 (refl, p.1) in
     let e : j ≡ x = cc in
     record { before = []; behind = prog; same = ap (λ (y : Instruction). y ∷ prog) e; place = refl }
 stood (j ∷ prog) (suc i) x a = next j (stood prog i x a)

@@ -11,7 +11,7 @@ use Rattle.played.specs.Played.{Block}
 use Rattle.score.specs.Trees.{Run}
 use Rattle.score.specs.declared.Shape.{Shape}
 use Rattle.score.specs.declared.Shape.TheVariants.{Straight, DaCapo, DalSegno, DaCapoFine, DalSegnoFine, DaCapoCoda, DalSegnoCoda}
-use Rattle.score.specs.declared.Time.{Time}
+use Rattle.score.specs.Times.{Time}
 use Rattle.score.specs.Shapes.{Score, score, table, Turn, letter_of, run_of}
 use Rattle.score.specs.Played.{run_plays, turns_play, plays}
 use Rattle.score.specs.Steps.{steps}

@@ -7,7 +7,7 @@ use lib.ListN.{length, length-append, length-map}
 use Rattle.score.specs.Trees.{block, Run, nil, ◌▸◌, Item, leaf, repeat, group, Ends, no_more, ◌then◌}
 use Rattle.score.specs.declared.Shape.{Shape}
 use Rattle.score.specs.declared.Shape.TheVariants.{Straight, DaCapo, DalSegno, DaCapoFine, DalSegnoFine, DaCapoCoda, DalSegnoCoda}
-use Rattle.score.specs.declared.Time.{Time}
+use Rattle.score.specs.Times.{Time}
 use Rattle.score.specs.Shapes.{Score, score}
 use Rattle.score.specs.Spelling.{run_signs, item_signs, ends_signs, signs_of}
 use Rattle.score.specs.Steps.{count}

@@ -10,7 +10,7 @@ use Rattle.refusals.specs.Limits.{Limits}
 use Rattle.score.specs.Trees.{block, Run, nil, ◌▸◌, Item, leaf, repeat, group, Ends, no_more, ◌then◌}
 use Rattle.score.specs.declared.Shape.{Shape}
 use Rattle.score.specs.declared.Shape.TheVariants.{Straight, DaCapo, DalSegno, DaCapoFine, DalSegnoFine, DaCapoCoda, DalSegnoCoda}
-use Rattle.score.specs.declared.Time.{Time}
+use Rattle.score.specs.Times.{Time}
 use Rattle.score.specs.Shapes.{Letter, Piece, run, sign, letters_of, table, run_of, Score, score}
 use Rattle.score.specs.Spelling.{left_signs, run_signs, item_signs, ends_signs, time_signs, spelled, signs_of}
 use Rattle.score.specs.Steps.{count}

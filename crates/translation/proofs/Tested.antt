@@ -13,7 +13,7 @@ use Rattle.refusals.specs.Limits.{Limits}
 use Rattle.instructions.specs.declared.Operation.{Operation}
 use Rattle.instructions.specs.declared.Operation.TheVariants.{Block, Loop, Repeat, Label, Jump, JumpUnless}
 use Rattle.instructions.specs.declared.Instruction.{Instruction}
-use Rattle.instructions.specs.declared.listing.Tested.TheVariants.{Good}
+use Rattle.std.specs.Prelude.{Ok}
 use Rattle.instructions.specs.Forms.{beside, loop_of, label_of, block, loop, rep, lb, jmp, njmp}
 use Rattle.instructions.specs.Words.{packed}
 use Rattle.instructions.specs.Places.{marks_loop, repeats_loop, marks_label, is}
@@ -182,5 +182,5 @@ module _ {m : Limits} {prog : List Instruction} {n top : ℕ} (packs : Packs m) 
   never i (bad_block k l a (inl (inr h))) = let s = sound (stood prog i (block k l) a) in omega (arith, s.1)
   never i (bad_block k l a (inr h)) = let s = sound (stood prog i (block k l) a) in omega (arith, s.2)
 
-  pub passes_test : test_listing m (map packed prog) ≡ Good
+  pub passes_test : test_listing m (map packed prog) ≡ Ok tt
   passes_test = (good_exactly m (map packed prog)).1 never

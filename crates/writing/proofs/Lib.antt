@@ -1,6 +1,5 @@
-pub mod Lettering
-pub mod Decimal
-pub mod Wording
+pub mod Spelling
+pub mod Laying
 pub mod Lining
 pub mod NumbersAgain
 pub mod SignsAgain

@@ -1,4 +1,3 @@
 pub mod Spell
-pub mod Letters
 pub mod Laid
 pub mod Writing

@@ -1,11 +1,10 @@
 -- How a sign, and a list of signs, is written.
 -- Assumes nothing.
-use Rattle.std.specs.Prelude.{cond, List, [], ◌∷◌, ◌++◌, map, ℕ, zero, suc, ◌+◌, ◌/◌, ◌%◌, ltb}
+use Rattle.std.specs.Prelude.{cond, List, [], ◌∷◌, ◌++◌, map, ℕ, zero, suc, ◌+◌, ◌/◌, ◌%◌, ltb, codes}
 use Rattle.signs.specs.declared.sign.Jumped.{Jumped}
 use Rattle.signs.specs.declared.sign.Jumped.TheVariants.{Dc, DcCoda, DcFine, Ds, DsCoda, DsFine}
 use Rattle.signs.specs.declared.sign.Sign.{Sign}
 use Rattle.signs.specs.declared.sign.Sign.TheVariants.{Block, Time, LeftRepeat, RightRepeat, OpenEnding, CloseEnding, Jump, Segno, Coda, ToCoda, Fine}
-use Rattle.signs.specs.Bytes.{bytes}
 
 -- n in decimal; of a number with more than f digits the last f
 unfoldable pub digits_in : ℕ → ℕ → List ℕ
@@ -18,29 +17,29 @@ digits n = digits_in 6 n
 
 -- two numbers, with no space after the comma, and the closing bracket
 abbrev pub pair_text : ℕ → ℕ → List ℕ
-pair_text k l = digits k ++ (bytes "," ++ (digits l ++ bytes ")"))
+pair_text k l = digits k ++ (codes "," ++ (digits l ++ codes ")"))
 
 abbrev pub spell_jump : Jumped → List ℕ
-spell_jump Dc = bytes "DC"
-spell_jump DcCoda = bytes "DC.Coda"
-spell_jump DcFine = bytes "DC.Fine"
-spell_jump Ds = bytes "DS"
-spell_jump DsCoda = bytes "DS.Coda"
-spell_jump DsFine = bytes "DS.Fine"
+spell_jump Dc = codes "DC"
+spell_jump DcCoda = codes "DC.Coda"
+spell_jump DcFine = codes "DC.Fine"
+spell_jump Ds = codes "DS"
+spell_jump DsCoda = codes "DS.Coda"
+spell_jump DsFine = codes "DS.Fine"
 
 -- a sign as it is written
 unfoldable pub spell : Sign → List ℕ
-spell (Block k l) = bytes "(b," ++ pair_text k l
-spell (Time m n) = bytes "(ts," ++ pair_text m n
-spell LeftRepeat = bytes "|:"
-spell RightRepeat = bytes ":|"
-spell OpenEnding = bytes "["
-spell CloseEnding = bytes "]"
+spell (Block k l) = codes "(b," ++ pair_text k l
+spell (Time m n) = codes "(ts," ++ pair_text m n
+spell LeftRepeat = codes "|:"
+spell RightRepeat = codes ":|"
+spell OpenEnding = codes "["
+spell CloseEnding = codes "]"
 spell (Jump j) = spell_jump j
-spell Segno = bytes "Segno"
-spell Coda = bytes "Coda"
-spell ToCoda = bytes "ToCoda"
-spell Fine = bytes "Fine"
+spell Segno = codes "Segno"
+spell Coda = codes "Coda"
+spell ToCoda = codes "ToCoda"
+spell Fine = codes "Fine"
 
 -- one space between signs
 abbrev pub spaced : List (List ℕ) → List ℕ

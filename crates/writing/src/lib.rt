@@ -2,140 +2,108 @@
 
 #![tactic(auto)]
 
-mod put;
+mod page;
 
-ghost use Rattle.std.specs.Prelude.{◌≡◌, ◌≤◌, ◌<◌, ◌^◌, T, length};
+ghost use Rattle.std.specs.Prelude.{◌≡◌, ◌≤◌, cond, T, length, IfOk, Ok};
 ghost use Rattle.refusals.specs.Limits.{document01};
-ghost use Rattle.signs.specs.Text.{front};
-ghost use Rattle.writing.specs.Spell.{text_of};
-ghost use Rattle.writing.specs.Laid.{Laid};
-ghost use Rattle.writing.specs.Writing.{both_small, writable, entry_of, fitted, signs_in, writing_of, content_of, writing_one, content_one, said_written, writing_said, writing_said_one};
+ghost use Rattle.signs.specs.Words.{sign_of};
+ghost use Rattle.writing.specs.Spell.{spell, text_of};
+ghost use Rattle.writing.specs.Laid.{Holds};
+ghost use Rattle.writing.specs.Writing.{small, writable, fitted, signs_in, measured, writing_of, content_of, writing_one, content_one, said_written, writing_said, writing_said_one};
 
-use put::{put_byte, put_word};
-use refusals::{NUMBER, Refusal};
-use signs::{Sign, Unpacked};
+use page::Page;
+use refusals::{BYTES, NUMBER, Refusal, SIGNS};
+use signs::Sign;
 
-// How many bytes are written, or a refusal.
-#[derive(Clone, Copy)]
-pub enum Written {
-    Bytes(usize),
-    Refused(Refusal),
-}
-
-// Whether two numbers are at most the largest that a sign carries.
-fn both_small(a: u64, b: u64) -> bool
-    ensures { result ≡ both_small document01 a b }
+// Whether a sign's numbers are at most the largest that one carries.
+fn is_small(sign: &Sign) -> bool
+    ensures { result ≡ small document01 sign.now }
 {
-    if (NUMBER as u64) < a {
-        return false;
+    match *sign {
+        Sign::Block(a, b) | Sign::Time(a, b) => a <= NUMBER && b <= NUMBER,
+        _ => true,
     }
-    b <= NUMBER as u64
 }
 
-// Whether a word is a sign that can be written.
-fn is_writable(word: u64) -> bool
-    ensures { result ≡ writable document01 word }
+// The sign of a word, if it can be written.
+fn writable(word: u64) -> Option<Sign>
+    ensures { result ≡ cond (writable document01 word) (sign_of word) None }
 {
-    let Unpacked::Packed(_) = signs::unpack(word) else {
-        return false;
-    };
-    both_small(word / 256 % 268435456, word / 68719476736)
+    Sign::try_from(word).ok().filter(is_small)
 }
 
-// How many words at the front can be written.
-fn writable_front(words: &[u64]) -> usize
-    ensures { result ≡ front (writable document01) words.now }
+// Lays signs, one space between them and one byte 10 behind, and answers how many bytes that takes; refuses the first that can't be written.
+fn lay_signs(words: &[u64], out: &mut [u8]) -> Result<usize, Refusal>
+    requires { length words.now ≤ document01.signs }
+    ensures answer { result ≡ measured document01 words.now }
+    ensures laid { IfOk result (λ n. Holds out.old (text_of (signs_in words.now)) out.new) }
 {
-    let mut i: usize = 0;
-    while i < words.len() {
-        if !is_writable(words[i]) {
-            return i;
+    let mut page = Page::new(out);
+    for (i, word) in words.iter().enumerate() {
+        let Some(sign) = writable(*word) else {
+            return Err(Refusal::Unwritable(i as u64));
+        };
+        if i > 0 {
+            page.put(b" ");
         }
-        i += 1;
+        page.put_sign(sign);
     }
-    i
+    page.put(b"\n");
+    Ok(page.at)
 }
 
-// Puts a sign, with a space before it where it is not the first.
-fn put_entry(out: &mut [u8], at: usize, first: bool, word: u64) -> usize
-    requires { (at < 2 ^ 32) × T (writable document01 word) }
-    ensures { Laid out.old at (entry_of first word) out.new result }
+// Lays one sign, and answers how many bytes that takes.
+#[tactic(auto, using(crate::proofs::Spelling::spell_length))]
+fn lay_sign(sign: Sign, out: &mut [u8]) -> usize
+    requires { T (small document01 sign) }
+    ensures answer { result ≡ length (spell sign) }
+    ensures laid { Holds out.old (spell sign) out.new }
 {
-    if first {
-        return put_word(out, at, word);
-    }
-    put_byte(out, at, 32);
-    put_word(out, at + 1, word)
+    let mut page = Page::new(out);
+    page.put_sign(sign);
+    page.at
 }
 
-// Puts signs, one space between them and one byte 10 behind; answers how many bytes that takes.
-fn put_words(out: &mut [u8], words: &[u64]) -> usize
-    requires { (length words.now ≤ document01.signs) × (front (writable document01) words.now ≡ length words.now) }
-    ensures { Laid out.old 0 (text_of (signs_in words.now)) out.new result }
-{
-    let mut at: usize = 0;
-    let mut i: usize = 0;
-    while i < words.len() {
-        at = put_entry(out, at, i == 0, words[i]);
-        i += 1;
-    }
-    put_byte(out, at, 10);
-    at + 1
-}
-
-// Whether so many bytes may be written.
-fn fit(room: usize, needed: usize) -> Written
+// So many bytes, if they may be written.
+fn fit(room: usize, needed: usize) -> Result<usize, Refusal>
     ensures { result ≡ fitted document01 room needed }
 {
-    if refusals::BYTES < needed {
-        return Written::Refused(Refusal::TextTooLong);
+    if needed > BYTES {
+        return Err(Refusal::TextTooLong);
     }
-    if room < needed {
-        return Written::Refused(Refusal::NoRoom(needed as u64));
+    if needed > room {
+        return Err(Refusal::NoRoom(needed as u64));
     }
-    Written::Bytes(needed)
+    Ok(needed)
 }
 
-// Writes signs into a buffer, which a refusal leaves as it was.
-pub fn write_signs(words: &[u64], out: &mut [u8]) -> Written
+// Writes signs into a buffer, which a refusal leaves as it was; answers how many bytes there are.
+#[tactic(auto, using(std::proofs::lemmas::Bool::Decides::nat_tests), unfolding(crate::specs::Writing::writing_of, crate::specs::Writing::content_of))]
+pub fn write_signs(words: &[u64], out: &mut [u8]) -> Result<usize, Refusal>
     ensures answer { result ≡ writing_of document01 words.now (length out.old) }
     ensures numbers { said_written document01 result ≡ writing_said document01 words.now (length out.old) }
     ensures buffer { out.new ≡ content_of document01 words.now out.old }
 {
-    if refusals::SIGNS < words.len() {
-        return Written::Refused(Refusal::TooManySigns);
-    }
-    let good = writable_front(words);
-    if good < words.len() {
-        return Written::Refused(Refusal::Unwritable(good as u64));
+    if words.len() > SIGNS {
+        return Err(Refusal::TooManySigns);
     }
     // laid into a buffer without room for it, the text is only measured
-    let mut spare = [0u8; 1];
-    let needed = put_words(&mut spare, words);
-    let fits = fit(out.len(), needed);
-    let Written::Bytes(n) = fits else {
-        return fits;
-    };
-    put_words(out, words);
-    Written::Bytes(n)
+    let needed = lay_signs(words, &mut [])?;
+    fit(out.len(), needed)?;
+    lay_signs(words, out)
 }
 
-// Writes one sign into a buffer, which a refusal leaves as it was.
-pub fn write_sign(sign: Sign, out: &mut [u8]) -> Written
+// Writes one sign into a buffer, which a refusal leaves as it was; answers how many bytes there are.
+#[tactic(auto, using(std::proofs::lemmas::Bool::Decides::nat_tests), unfolding(crate::specs::Writing::writing_one, crate::specs::Writing::content_one))]
+pub fn write_sign(sign: Sign, out: &mut [u8]) -> Result<usize, Refusal>
     ensures answer { result ≡ writing_one document01 sign (length out.old) }
     ensures numbers { said_written document01 result ≡ writing_said_one document01 sign (length out.old) }
     ensures buffer { out.new ≡ content_one document01 sign out.old }
 {
-    let word = signs::pack(sign);
-    if !is_writable(word) {
-        return Written::Refused(Refusal::Unwritable(0));
+    if !is_small(&sign) {
+        return Err(Refusal::Unwritable(0));
     }
-    let mut spare = [0u8; 1];
-    let needed = put_word(&mut spare, 0, word);
-    let fits = fit(out.len(), needed);
-    let Written::Bytes(n) = fits else {
-        return fits;
-    };
-    put_word(out, 0, word);
-    Written::Bytes(n)
+    let needed = lay_sign(sign, &mut []);
+    fit(out.len(), needed)?;
+    Ok(lay_sign(sign, out))
 }

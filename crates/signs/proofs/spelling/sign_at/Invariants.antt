@@ -1,4 +1,5 @@
 use Rattle.std.proofs.Common.{◌≡◌, ◌≤◌, ◌<◌, ◌-◌}
+use Rattle.signs.specs.Spellings.{letters_of}
 use Rattle.signs.proofs.Scan.{Known, Agrees}
 use Rattle.signs.proofs.spelling.sign_at.Given as goal
 
@@ -10,8 +11,5 @@ abbrev pub decreases-scan : goal.decreases-scan
 decreases-scan l = 16 - l.i
 
 -- of spelling i the letters read agree with the text
-abbrev pub invariant-letters : goal.invariant-letters
-invariant-letters l = (l.i ≡ l.initial.i) × (l.i < 16) × Known l.text l.at l.i × Agrees l.text l.at l.i l.left l.p
-
-abbrev pub decreases-letters : goal.decreases-letters
-decreases-letters l = l.left
+abbrev pub invariant-loop-letter : goal.invariant-loop-letter
+invariant-loop-letter l = (l.i ≡ l.initial.i) × (l.letter-items ≡ letters_of l.i) × (l.i < 16) × Known l.text l.at l.i × Agrees l.text l.at l.i l.letter-index l.p
