@@ -3,7 +3,7 @@
 use mathlib.Core.Path.{◌≡◌, subst}
 use mathlib.Core.Bool.{true}
 use mathlib.Core.List.{List}
-use Prim.Native.Nat.{ℕ, ◌≤◌, ◌<◌, ◌/◌, ◌%◌, ◌^◌}
+use Prim.Native.Nat.{ℕ, ◌<◌, ◌/◌, ◌%◌, ◌^◌}
 use native.Mathlib.Omega.{arith}
 use lib.ListN.{length, get_or, get_or-eq_default}
 use Rattle.std.specs.Prelude.{Option, Some}
@@ -77,9 +77,6 @@ module _ (listing : List ℕ) (x i : ℕ) where
 module _ (named : Option Instruction → Option ℕ) (listing : List ℕ) (x : ℕ) where
   first : FirstFrom (names named listing x) 0 (length listing) (first_place named listing x)
   first = least_first (names named listing x) (length listing)
-
-  pub at_most : first_place named listing x ≤ length listing
-  at_most = first.high
 
   pub at_first : first_place named listing x < length listing → names named listing x (first_place named listing x) ≡ true
   at_first = first.found

@@ -83,9 +83,6 @@ module _ (l : Limits) (listing : List ℕ) (i k : ℕ) (t : Tables) (lt : i < le
         labels = further label_mark l.labels (label_in t) (label_in new) u e h.labels labels;
       }
 
-  pub put_none : unpacked (get_or listing i 0) ≡ None → Filled l listing i t
-  put_none e = next None t e refl refl (λ x q. refl) (λ x q. refl) (λ x q. refl)
-
   put : (o : Operation) (L B : ℕ) → unpacked (get_or listing i 0) ≡ Some (beside o L B) → Filled l listing i (put_in t i L B o)
   put (Block k n) L B e = next _ _ e refl refl (λ x q. refl) (λ x q. refl) (λ x q. refl)
   put Loop L B e =

@@ -10,7 +10,7 @@ ghost use Rattle.reader.specs.Reader.{behind};
 use signs::Next;
 
 // A text and a place in it.
-#[derive(Clone, Copy, Debug)]
+#[derive(Clone, Copy, Debug, PartialEq, Eq)]
 pub struct Reader<'a> {
     pub text: &'a [u8],
     pub at: usize,

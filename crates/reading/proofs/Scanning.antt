@@ -1,19 +1,17 @@
 -- The signs of a text, one step at a time: what the loop that reads them knows.
 -- Assumes nothing.
 use Rattle.std.specs.Prelude.{Err, None, Ok, Option, Some}
-use mathlib.Core.Bool.{Bool, true, false, cond}
 use mathlib.Core.Path.{◌≡◌, refl, sym, ap, ◌∙◌}
 use mathlib.Core.List.{List, [], map}
 use Prim.Native.Nat.{ℕ, zero, suc, ◌+◌, ◌-◌, ◌≤◌, ◌<◌}
 use native.Mathlib.Nat.{not-suc-le-zero}
 use native.Mathlib.Numerals.{add-one}
 use native.Mathlib.Omega.{arith}
-use borrow.Author.Tests.{lt-ltb, le-ltb, ltb-false}
-use lib.Dec.{ltb}
+use borrow.Author.Tests.{lt-ltb, le-ltb}
 use lib.ListN.{length, take, drop, set, length-set, length-map}
 use lib.Seq.{sets, sets-eq, take_at}
 use Rattle.refusals.specs.declared.Refusal.{Refusal}
-use Rattle.refusals.specs.declared.Refusal.TheVariants.{TextTooLong, Unreadable, TooManySigns, NoRoom}
+use Rattle.refusals.specs.declared.Refusal.TheVariants.{TextTooLong, Unreadable}
 use Rattle.refusals.specs.Limits.{Limits}
 use Rattle.signs.specs.declared.sign.Sign.{Sign}
 use Rattle.signs.specs.Words.{word_of}
@@ -60,9 +58,6 @@ pub record ReadTo (text words₀ words : List ℕ) (at n : ℕ) : Type 0 where
   pub stop : (scanned text 0).stop ≡ (scanned text at).stop
   pub long : length words ≡ length words₀
   pub kept : sets words₀ 0 (map word_of (signs_of text)) ≡ sets words n (map word_of (signs_from text at))
-
-pub none_read : (text words : List ℕ) → ReadTo text words words 0 0
-none_read text words = record { within = omega arith; few = omega arith; sum = omega arith; stop = refl; long = refl; kept = refl }
 
 module _ (text words₀ words : List ℕ) (at n : ℕ) (k : ReadTo text words₀ words at n) where
   one_more : (s : Sign) (b e : ℕ) → coming text at ≡ sign s b e → ReadTo text words₀ (set words n (word_of s)) e (n + 1)
@@ -151,24 +146,3 @@ first_words text zs n e h =
     let ws = map word_of (signs_of text) in
     let k : length ws ≡ n = length-map (signs_of text) word_of ∙ counted_size (length (signs_of text)) n (scanned text 0).stop e in
     rw (sets-eq ws zs 0 (omega arith)) (take_at ws (drop (0 + length ws) zs) n k)
-
--- signs that are read fit the buffer
-pub fits_room : (l : Limits) (text : List ℕ) (room n : ℕ) → reading_of l text room ≡ Ok n → n ≤ room
-unfolding reading_of
-fits_room l text room n e = long (ltb l.bytes (length text)) e
-  where
-    short : (m : ℕ) (b : Bool) → ltb room m ≡ b → cond b (Err (NoRoom m)) (Ok m) ≡ Ok n → n ≤ room
-    short m true q e = clash (cc)
-    short m false q e = let f : m ≡ n = cc in omega (arith, ltb-false room m q)
-
-    many : (m : ℕ) (b : Bool) → cond b (Err TooManySigns) (cond (ltb room m) (Err (NoRoom m)) (Ok m)) ≡ Ok n → n ≤ room
-    many m true e = clash (cc)
-    many m false e = short m (ltb room m) refl e
-
-    by : (k : Reading) → room_for l room k ≡ Ok n → n ≤ room
-    by (Err r) e = clash (cc)
-    by (Ok m) e = many m (ltb l.signs m) e
-
-    long : (b : Bool) → cond b (Err TextTooLong) (room_for l room (counted text)) ≡ Ok n → n ≤ room
-    long true e = clash (cc)
-    long false e = by (counted text) e

@@ -3,6 +3,7 @@
 use Rattle.std.specs.Prelude.{None, Some}
 use mathlib.Core.Path.{◌≡◌, refl, sym, ◌∙◌}
 use mathlib.Core.Bool.{Bool, true, false, ◌&&◌}
+use mathlib.Core.Logic.{◌⊎◌, inl, inr, ⊎_elim}
 use mathlib.Core.List.{List, [], ◌∷◌}
 use Prim.Native.Nat.{ℕ, zero, suc, ◌+◌, ◌≤◌, ◌<◌}
 use native.Mathlib.Numerals.{add-one}
@@ -79,40 +80,40 @@ proper_at [] t j h = absurd (omega arith)
 proper_at (b ∷ bs) t zero h = (proper_range b bs t).0
 proper_at (b ∷ bs) t (suc j) h = proper_at bs (proper_range b bs t).2 j (omega arith)
 
--- spelling i agrees with the text in its first j letters, up to p
-pub record Agrees (text : List ℕ) (at i j p : ℕ) : Type 0 where
-  pub place : p ≡ at + j
+-- spelling i agrees with the text in its first j letters
+pub record Agrees (text : List ℕ) (at i j : ℕ) : Type 0 where
+  pub near : (j ≡ 0) ⊎ (at + j ≤ length text)
   pub inside : j ≤ length (letters_of i)
-  pub same : starts (letters_of i) (drop at text) ≡ starts (drop j (letters_of i)) (drop p text)
+  pub same : starts (letters_of i) (drop at text) ≡ starts (drop j (letters_of i)) (drop (at + j) text)
 
-pub agrees_none : (text : List ℕ) (at i : ℕ) → Agrees text at i 0 at
-agrees_none text at i = record { place = omega arith; inside = omega arith; same = refl }
+pub agrees_none : (text : List ℕ) (at i : ℕ) → Agrees text at i 0
+agrees_none text at i = let q : at + 0 ≡ at = omega arith in record { near = inl refl; inside = omega arith; same = rw q refl }
 
-module _ (text : List ℕ) (at i j p : ℕ) (f : i < 16) (a : Agrees text at i j p) where
+module _ (text : List ℕ) (at i j : ℕ) (f : i < 16) (a : Agrees text at i j) where
   module _ (h : j < length (letters_of i)) where
     some : 1 ≤ get_or (letters_of i) j 0
     some = proper_at (letters_of i) (letters_proper i f) j h
 
-    tested : starts (letters_of i) (drop at text) ≡ eqb (get_or (letters_of i) j 0) (get_or text p 0) && starts (drop (j + 1) (letters_of i)) (drop (p + 1) text)
-    tested = a.same ∙ starts_here (letters_of i) text j p (λ z. omega (arith, some))
+    tested : starts (letters_of i) (drop at text)
+        ≡ eqb (get_or (letters_of i) j 0) (get_or text (at + j) 0) && starts (drop (j + 1) (letters_of i)) (drop (at + j + 1) text)
+    tested = a.same ∙ starts_here (letters_of i) text j (at + j) (λ z. omega (arith, some))
 
-    pub agrees_more : get_or text p 0 ≡ get_or (letters_of i) j 0 → Agrees text at i (j + 1) (p + 1)
+    pub agrees_more : get_or text (at + j) 0 ≡ get_or (letters_of i) j 0 → Agrees text at i (j + 1)
     agrees_more e =
+        let q : at + j + 1 ≡ at + (j + 1) = omega arith in
         record {
-          place = omega (arith, a.place);
+          near = inr (omega (arith, there text (at + j) (λ z. omega (arith, some))));
           inside = omega arith;
-          same = tested ∙ rw (eq-eqb (get_or (letters_of i) j 0) (get_or text p 0) (sym e));
+          same = tested ∙ rw (eq-eqb (get_or (letters_of i) j 0) (get_or text (at + j) 0) (sym e), q);
         }
 
-    pub agrees_there : get_or text p 0 ≡ get_or (letters_of i) j 0 → p < length text
-    agrees_there e = there text p (λ z. omega (arith, some))
+    pub differs : (get_or text (at + j) 0 ≡ get_or (letters_of i) j 0 → ⊥) → spelled text at (spelling i) ≡ None
+    differs n = rw (tested, ne_eqb (get_or (letters_of i) j 0) (get_or text (at + j) 0) (λ e. n (sym e)))
 
-    pub differs : (get_or text p 0 ≡ get_or (letters_of i) j 0 → ⊥) → spelled text at (spelling i) ≡ None
-    differs n = rw (tested, ne_eqb (get_or (letters_of i) j 0) (get_or text p 0) (λ e. n (sym e)))
+  pub agrees_fits : (b : ℕ) → at < b → length text < b → at + j < b
+  agrees_fits b g h = ⊎_elim (λ e. omega (arith, e)) (λ e. omega (arith, e)) a.near
 
   -- the letters end: what stands is what follows them
-  pub agrees_all : length (letters_of i) ≤ j → spelled text at (spelling i) ≡ finished_by text p i
+  pub agrees_all : length (letters_of i) ≤ j → spelled text at (spelling i) ≡ finished_by text (at + length (letters_of i)) i
   unfolding starts
-  agrees_all z =
-      let q : at + length (letters_of i) ≡ p = omega (arith, a.place, a.inside) in
-      rw (a.same, drop_of_length-le (letters_of i) z, q)
+  agrees_all z = rw (a.same, drop_of_length-le (letters_of i) z)

@@ -78,7 +78,7 @@ fn finished(text: &[u8], i: usize, at: usize) -> Option<(Sign, usize)>
 }
 
 // The longest sign that stands at a place, and the place after it.
-#[tactic(auto, using(crate::proofs::Scan::known_none, crate::proofs::Scan::known_more, crate::proofs::Scan::known_stands, crate::proofs::Scan::known_start, crate::proofs::Scan::agrees_none, crate::proofs::Scan::agrees_more, crate::proofs::Scan::agrees_there, crate::proofs::Scan::differs, crate::proofs::Scan::agrees_all))]
+#[tactic(auto, using(crate::proofs::Scan::known_none, crate::proofs::Scan::known_more, crate::proofs::Scan::known_stands, crate::proofs::Scan::known_start, crate::proofs::Scan::agrees_none, crate::proofs::Scan::agrees_more, crate::proofs::Scan::differs, crate::proofs::Scan::agrees_all))]
 pub(crate) fn sign_at(text: &[u8], at: usize) -> Option<(Sign, usize)>
     ensures { result ≡ longest text.now at spellings }
 {
@@ -87,15 +87,14 @@ pub(crate) fn sign_at(text: &[u8], at: usize) -> Option<(Sign, usize)>
         if i == 16 {
             break 'scan None;
         }
-        let mut p = at;
-        for letter in letters(i) {
-            if peek(text, p) != *letter {
+        let letters = letters(i);
+        for (j, letter) in letters.iter().enumerate() {
+            if peek(text, at + j) != *letter {
                 i += 1;
                 continue 'scan;
             }
-            p += 1;
         }
-        let Some((sign, end)) = finished(text, i, p) else {
+        let Some((sign, end)) = finished(text, i, at + letters.len()) else {
             i += 1;
             continue 'scan;
         };

@@ -9,7 +9,7 @@ use machine::Position;
 use played::Played;
 use refusals::Refusal;
 
-// The entries of the buffer that most callers want.
+// How many entries the buffer has that most callers want.
 pub const CHUNK: usize = 64;
 
 // A run's answer, and the entries that it wrote; those behind them are all zero.

@@ -10,6 +10,6 @@ invariant-scan l = (l.i ≤ 16) × Known l.text l.at l.i
 abbrev pub decreases-scan : goal.decreases-scan
 decreases-scan l = 16 - l.i
 
--- of spelling i the letters read agree with the text
-abbrev pub invariant-loop-letter : goal.invariant-loop-letter
-invariant-loop-letter l = (l.i ≡ l.initial.i) × (l.letter-items ≡ letters_of l.i) × (l.i < 16) × Known l.text l.at l.i × Agrees l.text l.at l.i l.letter-index l.p
+-- of spelling i the first j letters agree with the text
+abbrev pub invariant-loop-j : goal.invariant-loop-j
+invariant-loop-j l = (l.i ≡ l.initial.i) × (l.letters ≡ letters_of l.i) × (l.i < 16) × Known l.text l.at l.i × Agrees l.text l.at l.i l.j
