@@ -2,13 +2,8 @@
 use Rattle.std.proofs.Common.{sym, ap, ◌∙◌, rules}
 use Rattle.std.proofs.lemmas.Result.{err_from_is_err_and}
 use Rattle.grammar.proofs.Heads.{ends_left}
-use Rattle.grammar.proofs.FirstWays.{first_halts, first_empty, first_wrongs, first_ends, first_closes, first_stops, first_groups}
+use Rattle.grammar.proofs.FirstWays.{first_empty, first_wrongs, first_ends, first_closes, first_stops, first_groups}
 use Rattle.grammar.proofs.first.+read_first.Goals as goal
-
-pub returns-in_err-first : goal.returns-in_err-first
-returns-in_err-first t c =
-    let p = err_from_is_err_and c.from_residual.result c.from_residual.ensures.1 in
-    rw (p.1, p.2) (first_halts c.args.words.now c.args.run c.in_err-first.field-0.0 c.in_err-first.ensures)
 
 pub returns-in-NoItem : goal.returns-in-NoItem
 returns-in-NoItem t c = first_empty c.args.words.now c.args.run c.in_ok-first.first c.in_ok-first.ensures c.in-NoItem.is

@@ -1,13 +1,9 @@
 -- The readers of runs, groups and endings: each answers by the law of its way.
 use Rattle.std.proofs.Common.{sym, ap, ◌∙◌, rules}
-use Rattle.std.proofs.lemmas.Result.{err_from_is_err_and}
 use Rattle.grammar.specs.Stretches.{followed}
 use Rattle.grammar.proofs.Heads.{starts_item, ends_left, ends_ending}
-use Rattle.grammar.proofs.Ways.{run_stops, run_block, run_item, run_halts, items_halt, items_none, items_some, group_halts, group_wrong, group_closes, group_endings, ends_halt, ends_wrong, ends_once, ends_done, ends_more}
+use Rattle.grammar.proofs.Ways.{run_stops, run_block, run_item, items_none, items_some, group_wrong, group_closes, group_endings, ends_wrong, ends_once, ends_done, ends_more}
 use Rattle.grammar.proofs.run.+read_endings_read_group_read_items_read_run.Goals as goal
-
-pub read_run-returns-in_default : goal.read_run-returns-in_default
-read_run-returns-in_default t c = run_stops c.args.words.now c.args.depth c.args.run c.requires.0 (ap starts_item (sym c.sign_at.ensures) ∙ search rules)
 
 pub read_run-returns-in_default-2 : goal.read_run-returns-in_default-2
 read_run-returns-in_default-2 t c = run_stops c.args.words.now c.args.depth c.args.run c.requires.0 (ap starts_item (sym c.sign_at.ensures) ∙ search rules)
@@ -16,30 +12,15 @@ pub read_run-returns-in-Some-Block : goal.read_run-returns-in-Some-Block
 read_run-returns-in-Some-Block t c =
     run_block c.args.words.now c.args.depth c.args.run c.in-Some-Block.field-0-0 c.in-Some-Block.beats (cc) c.follow.result (c.follow.ensures ∙ ap (followed c.args.run) c.block-block.ensures) c.read_run.result c.read_run.ensures
 
-pub read_run-returns-in_err-item-in-Some-LeftRepeat : goal.read_run-returns-in_err-item-in-Some-LeftRepeat
-read_run-returns-in_err-item-in-Some-LeftRepeat t c =
-    let p = err_from_is_err_and c.from_residual.result c.from_residual.ensures.1 in
-    rw (p.1, p.2) (run_halts c.args.words.now c.args.depth c.args.run (cc) c.in_err-item-in-Some-LeftRepeat.field-0.0 c.in_err-item-in-Some-LeftRepeat.ensures)
-
 pub read_run-returns-in_ok-item-in-Some-LeftRepeat : goal.read_run-returns-in_ok-item-in-Some-LeftRepeat
 read_run-returns-in_ok-item-in-Some-LeftRepeat t c =
     run_item c.args.words.now c.args.depth c.args.run (cc) c.in_ok-item-in-Some-LeftRepeat.item c.in_ok-item-in-Some-LeftRepeat.ensures c.follow-in-Some-LeftRepeat.result c.follow-in-Some-LeftRepeat.ensures c.read_run-in-Some-LeftRepeat.result c.read_run-in-Some-LeftRepeat.ensures
-
-pub read_items-returns-in_err-run : goal.read_items-returns-in_err-run
-read_items-returns-in_err-run t c =
-    let p = err_from_is_err_and c.from_residual.result c.from_residual.ensures.1 in
-    rw (p.1, p.2) (items_halt c.args.words.now c.args.depth c.args.at c.empty.result c.empty.ensures c.in_err-run.field-0.0 c.in_err-run.ensures)
 
 pub read_items-returns-in-NoItem : goal.read_items-returns-in-NoItem
 read_items-returns-in-NoItem t c = items_none c.args.words.now c.args.depth c.args.at c.empty.result c.empty.ensures c.in_ok-run.run' c.in_ok-run.ensures c.in-NoItem.is
 
 pub read_items-returns-in_default : goal.read_items-returns-in_default
 read_items-returns-in_default t c = items_some c.args.words.now c.args.depth c.args.at c.empty.result c.empty.ensures c.in_ok-run.run' c.in_ok-run.ensures c.in_default.not-NoItem
-
-pub read_group-returns-in_err-run : goal.read_group-returns-in_err-run
-read_group-returns-in_err-run t c =
-    let p = err_from_is_err_and c.from_residual.result c.from_residual.ensures.1 in
-    rw (p.1, p.2) (group_halts c.args.words.now c.args.depth c.args.at c.in_err-run.field-0.0 c.in_err-run.ensures)
 
 pub read_group-returns-in-Some-RightRepeat : goal.read_group-returns-in-Some-RightRepeat
 read_group-returns-in-Some-RightRepeat t c = group_closes c.args.words.now c.args.depth c.args.at c.in_ok-run.run' c.in_ok-run.ensures c.close.result c.close.ensures (cc)
@@ -53,11 +34,6 @@ read_group-returns-in_default t c = group_wrong c.args.words.now c.args.depth c.
 
 pub read_group-returns-in_default-2 : goal.read_group-returns-in_default-2
 read_group-returns-in_default-2 t c = group_wrong c.args.words.now c.args.depth c.args.at c.in_ok-run.run' c.in_ok-run.ensures (ap ends_left (sym c.sign_at.ensures) ∙ search rules)
-
-pub read_endings-returns-in_err-ending : goal.read_endings-returns-in_err-ending
-read_endings-returns-in_err-ending t c =
-    let p = err_from_is_err_and c.from_residual.result c.from_residual.ensures.1 in
-    rw (p.1, p.2) (ends_halt c.args.words.now c.args.depth c.args.group c.in_err-ending.field-0.0 c.in_err-ending.ensures)
 
 pub read_endings-returns-in_default : goal.read_endings-returns-in_default
 read_endings-returns-in_default t c =

@@ -2,12 +2,8 @@
 use Rattle.std.proofs.Common.{sym, ap, ◌∙◌, arith}
 use Rattle.std.proofs.lemmas.Result.{err_from_is_err_and}
 use Rattle.grammar.specs.Kinds.{halt}
-use Rattle.grammar.proofs.WholeWays.{led, refused, leave_done, leave_lost, leave_on, from_waits, from_halts, from_wrong, from_run}
+use Rattle.grammar.proofs.WholeWays.{led, refused, leave_lost, leave_on, from_waits, from_halts, from_wrong, from_run}
 use Rattle.grammar.proofs.whole.+leave_read_from.Goals as goal
-
-pub leave-returns-then-run-words : goal.leave-returns-then-run-words
-leave-returns-then-run-words t c =
-    leave_done c.args.words.now c.args.s c.args.run c.if-run-words.true c.in_ok-shape.shape (sym c.shape.ensures ∙ c.in_ok-shape.ensures.ok_part) c.ended.result c.ended.ensures
 
 pub leave-returns-in_err-sign : goal.leave-returns-in_err-sign
 leave-returns-in_err-sign t c =

@@ -1,13 +1,7 @@
 -- the spellings before i do not stand, and of spelling i the letters read agree with the text
-use Rattle.std.proofs.Common.{sym, ap, ◌∙◌, ◌^◌, arith, length, get_or}
-use Rattle.signs.proofs.Scan.{known_more, known_stands, agrees_fits, agrees_more, differs, agrees_all}
+use Rattle.std.proofs.Common.{sym, ap, ◌∙◌, arith, get_or}
+use Rattle.signs.proofs.Scan.{known_more, known_stands, agrees_more, differs, agrees_all}
 use Rattle.signs.proofs.spelling.sign_at.Goals as goal
-
-pub overflow_add-at : goal.overflow_add-at
-overflow_add-at c =
-    let l = c.loop-j in
-    let v = l.invariant in
-    omega (arith, agrees_fits c.args.text.now c.args.at l.i l.j v.2 v.4 (2 ^ 64) (omega arith) (omega arith))
 
 pub scan-preserved-then-peek-letter : goal.scan-preserved-then-peek-letter
 scan-preserved-then-peek-letter c =
@@ -28,18 +22,6 @@ loop-j-preserved c =
       agrees_more c.args.text.now c.args.at l.i l.j v.2 v.4 (rw (← v.1) c.loop-j-test.true)
           (sym c.peek-in-loop-j.ensures ∙ c.if-peek-letter.false ∙ ap (λ w. get_or w l.j 0) v.1),
     )
-
-pub overflow_add-at-in-scan : goal.overflow_add-at-in-scan
-overflow_add-at-in-scan c =
-    let l = c.loop-j in
-    let v = l.invariant in
-    omega (arith, c.loop-j-test.false, agrees_fits c.args.text.now c.args.at l.i l.j v.2 v.4 (2 ^ 64) (omega arith) (omega arith), ap length v.1, v.4.inside)
-
-pub scan-preserved : goal.scan-preserved
-scan-preserved c =
-    let l = c.loop-j in
-    let v = l.invariant in
-    (omega arith, known_more c.args.text.now c.args.at l.i v.2 (agrees_all c.args.text.now c.args.at l.i l.j v.2 v.4 (rw (← v.1) (omega (arith, c.loop-j-test.false))) ∙ rw (← v.1) (sym c.finished.ensures ∙ c.in_default.is)) v.3)
 
 pub returns-in-Some : goal.returns-in-Some
 returns-in-Some c =
