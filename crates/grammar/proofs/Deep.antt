@@ -2,8 +2,6 @@
 -- Assumes nothing.
 use mathlib.Core.Path.{◌≡◌, refl, ap, ◌∙◌}
 use mathlib.Core.Bool.{Bool, true, false, ◌&&◌, not}
-use mathlib.Core.Option.{none, some}
-use mathlib.Core.Option.{Option as Maybe}
 use Rattle.std.specs.Prelude.{Option, Some, None}
 use Rattle.std.specs.Option.{option_or}
 use mathlib.Core.List.{List, [], ◌∷◌, ◌++◌}
@@ -26,9 +24,9 @@ pub or_last : (a : Option ℕ) → option_or a None ≡ a
 or_last None = refl
 or_last (Some i) = refl
 
-deep_later : (p : ℕ) (o : Maybe ℕ) → deep_from p (later o) ≡ deep_from (p + 1) o
-deep_later p none = refl
-deep_later p (some i) = ap Some (omega arith)
+deep_later : (p : ℕ) (o : Option ℕ) → deep_from p (later o) ≡ deep_from (p + 1) o
+deep_later p None = refl
+deep_later p (Some i) = ap Some (omega arith)
 
 -- a sign that is no `|:`
 pub deep_other : (p d : ℕ) (x : Sign) (s : List Sign) (ds : List ℕ) → is_left x ≡ false → deep_of p (x ∷ s) (d ∷ ds) ≡ deep_of (p + 1) s ds

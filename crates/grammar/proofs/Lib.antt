@@ -6,5 +6,6 @@ pub mod Heads
 pub mod Leaving
 mod FirstWays
 pub mod StartWays
+pub mod OneScore
 pub mod Ways
 pub mod WholeWays

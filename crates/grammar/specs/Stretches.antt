@@ -2,8 +2,6 @@
 -- Assumes nothing.
 use Rattle.std.specs.Prelude.{cond, List, ◌++◌, ℕ, ◌+◌, ltb, length, Option, Some, None}
 use Rattle.std.specs.Option.{option_or}
-use Rattle.std.proofs.Math.Option.{none, some}
-use Rattle.std.proofs.Math.Option.{Option as Maybe}
 use Rattle.refusals.specs.Limits.{document01}
 use Rattle.signs.specs.declared.sign.Sign.{Sign}
 use Rattle.score.specs.Trees.{Leaf, Run, nil, ◌▸◌, Ends, no_more, ◌then◌}
@@ -80,9 +78,9 @@ ends_tally es =
     tally (capped (ends_loops es)) (capped (ends_implied es)) (capped (ends_labels es)) (capped (ends_total each es)) (capped (ends_total beats es)) (capped (ends_steps es))
 
 -- a place, from p on
-abbrev pub deep_from : ℕ → Maybe ℕ → Option ℕ
-deep_from p none = None
-deep_from p (some i) = Some (p + i)
+abbrev pub deep_from : ℕ → Option ℕ → Option ℕ
+deep_from p None = None
+deep_from p (Some i) = Some (p + i)
 
 -- the first `|:` that is too deep among signs that stand from place p on
 unfoldable pub deep_of : ℕ → List Sign → List ℕ → Option ℕ

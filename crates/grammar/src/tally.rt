@@ -46,7 +46,7 @@ impl Tally {
     }
 
     // One after the other.
-    pub(crate) fn join(self, next: Tally) -> Tally
+    pub fn join(self, next: Tally) -> Tally
         ensures { result ≡ joined self next }
     {
         Tally {

@@ -1,7 +1,6 @@
 -- The written `|:` that are open around each sign, and the first that is too deep.
 -- Assumes nothing.
-use Rattle.std.specs.Prelude.{Bool, true, false, cond, ◌&&◌, not, List, [], ◌∷◌, ◌++◌, ℕ, suc, ltb}
-use Rattle.std.proofs.Math.Option.{Option, none, some}
+use Rattle.std.specs.Prelude.{Bool, true, false, cond, ◌&&◌, not, List, [], ◌∷◌, ◌++◌, ℕ, suc, ltb, Option, None, Some}
 use Rattle.signs.specs.declared.sign.Sign.{Sign}
 use Rattle.signs.specs.declared.sign.Sign.TheVariants.{Block, LeftRepeat, RightRepeat, OpenEnding, CloseEnding, Jump, Segno, Coda, ToCoda, Fine}
 use Rattle.signs.specs.declared.sign.Sign.TheVariants.{Time as TimeSign}
@@ -66,9 +65,9 @@ is_left Fine = false
 
 -- the place of the first `|:` with n or more around it, if there is one
 abbrev pub first_deep : ℕ → List Sign → List ℕ → Option ℕ
-first_deep n [] ds = none
-first_deep n (x ∷ s) [] = none
-first_deep n (x ∷ s) (d ∷ ds) = cond (is_left x && not (ltb d n)) (some 0) (later (first_deep n s ds))
+first_deep n [] ds = None
+first_deep n (x ∷ s) [] = None
+first_deep n (x ∷ s) (d ∷ ds) = cond (is_left x && not (ltb d n)) (Some 0) (later (first_deep n s ds))
 
 -- where n may be open around a sign, the place of the first `|:` that opens one more
 abbrev pub too_deep : ℕ → Score → Option ℕ

@@ -1,7 +1,6 @@
 -- What is right to answer for sign words: refusals 3 to 8 in their order, or what the reading is.
 -- Assumes nothing.
-use Rattle.std.specs.Prelude.{◌≡◌, true, cond, List, map, ℕ, ltb, length, Result, Ok, Err}
-use Rattle.std.proofs.Math.Option.{Option, none, some}
+use Rattle.std.specs.Prelude.{◌≡◌, true, cond, List, map, ℕ, ltb, length, Result, Ok, Err, Option, None, Some}
 use Rattle.refusals.specs.Limits.{Limits}
 use Rattle.refusals.specs.declared.Refusal.{Refusal}
 use Rattle.refusals.specs.declared.Refusal.TheVariants.{TooManySigns, NoScore, BadNumber, TooDeep, TooManyLoops, TooManyPlayed}
@@ -39,8 +38,8 @@ Examined = Result Figures Refusal
 
 -- a refusal at a place, if there is one, or what else is answered
 abbrev pub refused_at : (ℕ → Refusal) → Option ℕ → Examined → Examined
-refused_at f none x = x
-refused_at f (some i) x = Err (f i)
+refused_at f None x = x
+refused_at f (Some i) x = Err (f i)
 
 -- the limits of loops and of blocks played
 abbrev pub sized : Limits → Score → Examined
@@ -66,5 +65,5 @@ pub record Examines (l : Limits) (words : List ℕ) (x : Examined) : Type 0 wher
 
 -- the refusal, whose number and place are its own
 abbrev pub refusal_of : Examined → Option Refusal
-refusal_of (Ok f) = none
-refusal_of (Err r) = some r
+refusal_of (Ok f) = None
+refusal_of (Err r) = Some r

@@ -1,7 +1,6 @@
 -- Numbers in the signs: the rule of each, and the first sign that breaks its rule.
 -- Assumes nothing.
-use Rattle.std.specs.Prelude.{Bool, true, false, cond, ◌&&◌, ◌||◌, not, List, [], ◌∷◌, ℕ, suc, ◌+◌, eqb, ltb}
-use Rattle.std.proofs.Math.Option.{Option, none, some}
+use Rattle.std.specs.Prelude.{Bool, true, false, cond, ◌&&◌, ◌||◌, not, List, [], ◌∷◌, ℕ, suc, ◌+◌, eqb, ltb, Option, None, Some}
 use Rattle.refusals.specs.Limits.{Limits}
 use Rattle.signs.specs.declared.sign.Sign.{Sign}
 use Rattle.signs.specs.declared.sign.Sign.TheVariants.{Block, Time, LeftRepeat, RightRepeat, OpenEnding, CloseEnding, Jump, Segno, Coda, ToCoda, Fine}
@@ -54,10 +53,10 @@ written (x ∷ s) = beats_of x + written s
 
 -- one place later
 abbrev pub later : Option ℕ → Option ℕ
-later none = none
-later (some i) = some (suc i)
+later None = None
+later (Some i) = Some (suc i)
 
 -- the place of the first sign that breaks its rule, if one does; the blocks before end at beat e
 abbrev pub first_break : Limits → ℕ → List Sign → Option ℕ
-first_break l e [] = none
-first_break l e (x ∷ s) = cond (keeps l e x) (later (first_break l (e + beats_of x) s)) (some 0)
+first_break l e [] = None
+first_break l e (x ∷ s) = cond (keeps l e x) (later (first_break l (e + beats_of x) s)) (Some 0)

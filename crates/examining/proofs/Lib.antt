@@ -1,0 +1,5 @@
+pub mod Answering
+pub mod Heads
+pub mod Judging
+pub mod Sizes
+pub mod Totals
