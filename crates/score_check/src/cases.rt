@@ -44,13 +44,13 @@ const DC_CODA: Sign = Sign::Jump(Jumped::DcCoda);
 
 const DS_CODA: Sign = Sign::Jump(Jumped::DsCoda);
 
-// What is answered for signs: the figures of a score, or the refusal.
-fn score<const N: usize>(rt: &impl Print, name: &str, signs: [Sign; N]) -> io::Result<()>
-    requires { N < 2 ^ 16 }
-{
-    match examine(&signs.map(u64::from)) {
+// What is answered for words: the figures of a score, or the refusal.
+fn words(rt: &impl Print, name: &str, words: &[u64]) -> io::Result<()> {
+    match examine(words) {
         Ok(
             Figures {
+                shape,
+                time,
                 blocks,
                 written,
                 beats,
@@ -59,15 +59,22 @@ fn score<const N: usize>(rt: &impl Print, name: &str, signs: [Sign; N]) -> io::R
                 implied,
                 labels,
                 instructions,
-                ..
             },
         ) => {
-            println!(rt;
-                "{name}: plays {blocks} {beats} of {written} in {steps}; lists {loops} {implied} {labels} {instructions}"
-            )
+            print!(rt;
+                "{name}: {shape:?} {time:?}, plays {blocks} {beats} of {written} in {steps}; "
+            )?;
+            println!(rt; "lists {loops} {implied} {labels} {instructions}")
         }
         Err(why) => println!(rt; "{name}: {why}"),
     }
+}
+
+// The same for signs.
+fn score<const N: usize>(rt: &impl Print, name: &str, signs: [Sign; N]) -> io::Result<()>
+    requires { N < 2 ^ 16 }
+{
+    words(rt, name, &signs.map(u64::from))
 }
 
 // Scores to check by: repeats and endings.
@@ -99,6 +106,57 @@ pub(crate) fn repeats(rt: &impl Print) -> io::Result<()> {
     )?;
     score(rt, "a and fifteen :|", closes::<16>())?;
     score(rt, "a and sixteen :|", closes::<17>())
+}
+
+// Scores with a time sign, with nested groups, and as deep as endings allow.
+pub(crate) fn worked(rt: &impl Print) -> io::Result<()> {
+    score(
+        rt,
+        "ts a Fine |: (b,4,12) :| |: e [ f ] :| [ g ] DC.Fine",
+        [
+            Sign::Time(4, 4),
+            A,
+            FINE,
+            OPEN,
+            Sign::Block(4, 12),
+            CLOSE,
+            OPEN,
+            E,
+            LEFT,
+            block(5),
+            RIGHT,
+            CLOSE,
+            LEFT,
+            block(6),
+            RIGHT,
+            DC_FINE,
+        ],
+    )?;
+    score(
+        rt,
+        "a [ b ] :| [ c ] [ d ] :| [ e ]",
+        [
+            A, LEFT, B, RIGHT, CLOSE, LEFT, C, RIGHT, LEFT, D, RIGHT, CLOSE, LEFT, E, RIGHT,
+        ],
+    )?;
+    score(
+        rt,
+        "8 deep, the last a group, and |: in its ending",
+        [
+            OPEN, OPEN, OPEN, OPEN, OPEN, OPEN, OPEN, OPEN, A, LEFT, OPEN, B, CLOSE, RIGHT, CLOSE,
+            LEFT, C, RIGHT, CLOSE, CLOSE, CLOSE, CLOSE, CLOSE, CLOSE, CLOSE,
+        ],
+    )?;
+    score(
+        rt,
+        "8 deep, the last a group, and |: behind it",
+        [
+            OPEN, OPEN, OPEN, OPEN, OPEN, OPEN, OPEN, OPEN, A, LEFT, B, RIGHT, CLOSE, LEFT, C,
+            RIGHT, OPEN, D, CLOSE, CLOSE, CLOSE, CLOSE, CLOSE, CLOSE, CLOSE, CLOSE,
+        ],
+    )?;
+    score(rt, "8 deep in an implied repeat", nested::<18>(8))?;
+    words(rt, "a and no sign", &[u64::from(A), 0])
 }
 
 // Scores to check by: one of each shape.
@@ -170,6 +228,9 @@ pub(crate) fn limits(rt: &impl Print) -> io::Result<()> {
     score(rt, "65 loops", repeated::<195>())?;
     score(rt, "8 deep", nested::<17>(8))?;
     score(rt, "9 deep", nested::<19>(9))?;
+    let mut signs = nested::<19>(9);
+    signs[9] = B;
+    score(rt, "9 deep, and b first", signs)?;
     score(rt, "65535 blocks played", doubled::<31>())?;
     let mut signs = doubled::<32>();
     signs[31] = block(16);

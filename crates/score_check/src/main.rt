@@ -8,6 +8,7 @@ use std::io;
 fn main(rt: HostRuntime) -> io::Result<()> {
     cases::repeats(&rt)?;
     cases::jumps(&rt)?;
+    cases::worked(&rt)?;
     cases::refused(&rt)?;
     cases::numbers(&rt)?;
     cases::limits(&rt)?;
