@@ -31,7 +31,8 @@ use Rattle.examining.specs.Figured.{written_of, is_block, figured}
 use Rattle.examining.specs.Figured.{instructions as instructions_of}
 use Rattle.examining.specs.Judged.{sized, judged, beats_written}
 use Rattle.examining.proofs.Heads.{time_is, blocks_is}
-use Rattle.examining.proofs.Sizes.{implied_few, labels_few, beats_few, steps_few}
+use Rattle.examining.proofs.Sizes.{implied_few, labels_few, beats_few}
+use Rattle.score.proofs.Bound.{steps_within}
 use Rattle.examining.proofs.Totals.{loops_kept, implied_kept, labels_kept, blocks_kept, beats_kept, steps_kept, heard_total}
 
 -- a number within the bound is itself
@@ -103,7 +104,7 @@ module _ (w : List ℕ) (t : Score) (v : Valid true t) (same : map sign_of w ≡
       let b = beats_few t in
       let low : written (signs_of t) ≤ 999999 = omega arith in
       let m : written (signs_of t) * length (plays t) ≤ 999999 * 65535 = mul-le-mul low heard_few in
-      let s = steps_few t 1024 65535 v (omega (arith, as_long)) heard_few in
+      let s = steps_within true t 1024 65535 v (omega (arith, as_long)) heard_few in
       let loops_are : (written_of (whole_of t)).loops ≡ loops t = loops_kept t ∙ within_bound (loops t) (omega arith) in
       let labels_are : (written_of (whole_of t)).labels ≡ labels t = labels_kept t ∙ within_bound (labels t) (omega (arith, as_long)) in
       same_figures (shape_is t) (time_is w t same) loops_are

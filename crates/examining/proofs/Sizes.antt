@@ -1,20 +1,20 @@
 -- The figures of a score are small beside its signs, its loops and its blocks played.
 -- Assumes nothing.
-use Rattle.std.proofs.Common.{◌≡◌, ◌∙◌, refl, sym, ap, arith, true, List, [], ◌∷◌, ℕ, ◌+◌, ◌*◌, ◌≤◌, mul-le-mul, mul-le-mul_right, length, length-append}
+use Rattle.std.proofs.Common.{◌≡◌, ◌∙◌, refl, sym, ap, arith, true, List, [], ◌∷◌, ℕ, ◌+◌, ◌*◌, ◌≤◌, length, length-append}
 use Rattle.signs.specs.declared.sign.Sign.{Sign}
 use Rattle.signs.specs.declared.sign.Sign.TheVariants.{Block}
 use Rattle.score.specs.declared.Shape.TheVariants.{Straight, DaCapo, DalSegno, DaCapoFine, DalSegnoFine, DaCapoCoda, DalSegnoCoda}
-use Rattle.score.specs.Trees.{Left, written, lacking, Run, nil, ◌▸◌, Item, leaf, repeat, group, Ends, no_more, ◌then◌}
+use Rattle.score.specs.Trees.{Leaf, Left, written, lacking, Run, nil, ◌▸◌, Item, leaf, repeat, group, Ends, no_more, ◌then◌}
 use Rattle.score.specs.Shapes.{Score, score}
 use Rattle.score.specs.Spelling.{run_signs, item_signs, ends_signs, signs_of}
 use Rattle.score.specs.Readings.{Valid}
 use Rattle.score.specs.Played.{plays, beats}
-use Rattle.score.specs.Steps.{count, steps}
+use Rattle.score.specs.Steps.{count}
 use Rattle.score.specs.Numbers.{written as beats_written}
-use Rattle.score.specs.Calls.{Call, calls, names}
-use Rattle.score.specs.Sums.{total, called, each, leaves}
+use Rattle.score.specs.Calls.{calls, names}
+use Rattle.score.specs.Sums.{total, leaves}
 use Rattle.score.specs.Sizes.{lacks, run_loops, item_loops, ends_loops, run_implied, item_implied, ends_implied, run_labels, item_labels, ends_labels, loops, implied, labels}
-use Rattle.score.proofs.Bound.{few_steps}
+use Rattle.score.proofs.Bound.{AllLow, called_low}
 use Rattle.score.proofs.Calls.{blocks_played, beats_played}
 use Rattle.score.proofs.Written.{block_signs}
 
@@ -70,23 +70,13 @@ leaves_total [] = refl
 leaves_total (Block k l ∷ s) = let e = leaves_total s in omega arith
 leaves_total (_ ∷ s) = let e = leaves_total s in omega arith
 
-called_few : (n : ℕ) (cs : List Call) → total beats (names cs) ≤ n → called beats cs ≤ n * called each cs
-called_few n [] h = omega arith
-called_few n (c ∷ cs) h =
-    let a = called_few n cs (omega arith) in
-    let b : beats c.what * c.often ≤ n * c.often = mul-le-mul_right c.often (omega arith) in
-    omega arith
+total_low : (n : ℕ) (xs : List Leaf) → total beats xs ≤ n → AllLow n xs
+total_low n [] h = tt
+total_low n (x ∷ xs) h = (omega arith, total_low n xs (omega arith))
 
 -- each block played has at most the beats that are written
 pub beats_few : (t : Score) → total beats (plays t) ≤ beats_written (signs_of t) * length (plays t)
 beats_few t =
     let e : total beats (names (calls t)) ≡ beats_written (signs_of t) = ap (total beats) (sym (block_signs t)) ∙ leaves_total (signs_of t) in
-    let a = called_few (beats_written (signs_of t)) (calls t) (omega arith) in
+    let a = called_low (beats_written (signs_of t)) (calls t) (total_low (beats_written (signs_of t)) (names (calls t)) (omega arith)) in
     rw (beats_played t, blocks_played t) a
-
--- the steps, where few signs are written and few blocks played
-pub steps_few : (t : Score) (s b : ℕ) → Valid true t → length (signs_of t) ≤ s → length (plays t) ≤ b → steps t ≤ b * (2 * s) + 5
-steps_few t s b v h k =
-    let a = few_steps true t v in
-    let c : length (plays t) * (2 * length (signs_of t)) ≤ b * (2 * s) = mul-le-mul k (omega arith) in
-    omega arith

@@ -2,10 +2,10 @@
 -- Assumes nothing.
 use mathlib.Core.Path.{◌≡◌}
 use mathlib.Core.Bool.{Bool, false}
-use mathlib.Core.List.{List}
+use mathlib.Core.List.{List, [], ◌∷◌}
 use Prim.Native.Nat.{ℕ, suc, ◌+◌, ◌*◌, ◌≤◌}
 use native.Mathlib.Omega.{arith}
-use native.Mathlib.Nat.{mul-le-mul_left}
+use native.Mathlib.Nat.{mul-le-mul, mul-le-mul_left, mul-le-mul_right}
 use lib.ListN.{length, length-append}
 use Rattle.signs.specs.declared.sign.Sign.{Sign}
 use Rattle.score.specs.Trees.{Leaf, Run, nil, ◌▸◌, Item, leaf, repeat, group, Ends, no_more, ◌then◌}
@@ -15,7 +15,9 @@ use Rattle.score.specs.Times.{Time}
 use Rattle.score.specs.Shapes.{Score, score}
 use Rattle.score.specs.Spelling.{left_signs, run_signs, item_signs, ends_signs, signs_of}
 use Rattle.score.specs.Readings.{Some, inside, start_after, Good, GoodItem, GoodEnds, Valid}
-use Rattle.score.specs.Played.{run_plays, item_plays, ends_play, plays}
+use Rattle.score.specs.Played.{beats, run_plays, item_plays, ends_play, plays}
+use Rattle.score.specs.Calls.{Call, names}
+use Rattle.score.specs.Sums.{called, each}
 use Rattle.score.specs.Steps.{count, run_steps, item_steps, ends_steps, steps}
 
 -- the arithmetic of a row and of an item
@@ -105,3 +107,23 @@ shape_fits implied t DalSegnoCoda a b c d g =
 -- The steps are at most the blocks played times twice the signs, and 5.
 pub few_steps : (implied : Bool) (t : Score) → Valid implied t → steps t ≤ length (plays t) * (2 * length (signs_of t)) + 5
 few_steps implied (score t h a b c d) g = shape_fits implied t h a b c d g
+
+-- the same, where few signs are written and few blocks played
+pub steps_within : (implied : Bool) (t : Score) (s b : ℕ) → Valid implied t → length (signs_of t) ≤ s → length (plays t) ≤ b → steps t ≤ b * (2 * s) + 5
+steps_within implied t s b v h k =
+    let a = few_steps implied t v in
+    let c : length (plays t) * (2 * length (signs_of t)) ≤ b * (2 * s) = mul-le-mul k (omega arith) in
+    omega arith
+
+-- each leaf has at most n beats
+abbrev pub AllLow : ℕ → List Leaf → Type 0
+AllLow n [] = Unit {0}
+AllLow n (x ∷ xs) = (beats x ≤ n) × AllLow n xs
+
+-- then each call plays at most n
+pub called_low : (n : ℕ) (cs : List Call) → AllLow n (names cs) → called beats cs ≤ n * called each cs
+called_low n [] h = omega arith
+called_low n (c ∷ cs) h =
+    let a = called_low n cs h.1 in
+    let b : beats c.what * c.often ≤ n * c.often = mul-le-mul_right c.often h.0 in
+    omega arith

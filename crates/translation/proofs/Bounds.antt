@@ -4,48 +4,37 @@ use mathlib.Core.Path.{◌≡◌, subst}
 use mathlib.Core.Bool.{Bool}
 use mathlib.Core.List.{List, [], ◌∷◌, map}
 use Prim.Native.Nat.{ℕ, ◌+◌, ◌*◌, ◌^◌, ◌≤◌, ◌<◌}
-use native.Mathlib.Nat.{mul-le-mul, mul-le-mul_left, mul-le-mul_right}
+use native.Mathlib.Nat.{mul-le-mul_left}
 use native.Mathlib.Omega.{arith}
 use lib.ListN.{length}
 use Rattle.refusals.specs.Limits.{Limits, document01}
 use Rattle.played.specs.declared.Played.{Played}
 use Rattle.score.specs.Trees.{Leaf, block}
 use Rattle.score.specs.Shapes.{Score}
-use Rattle.score.specs.Spelling.{signs_of}
 use Rattle.score.specs.Readings.{Valid}
 use Rattle.played.specs.Played.{entries}
 use Rattle.score.specs.Played.{block_of, beats, plays, played}
 use Rattle.score.specs.Steps.{steps}
-use Rattle.score.specs.Calls.{Call, calls, names}
-use Rattle.score.specs.Sums.{total, called, each}
-use Rattle.score.proofs.Bound.{few_steps}
+use Rattle.score.specs.Calls.{calls, names}
+use Rattle.score.specs.Sums.{total, called}
+use Rattle.score.proofs.Bound.{steps_within, AllLow, called_low}
 use Rattle.score.proofs.Calls.{blocks_played, beats_played}
 use Rattle.score.proofs.Written.{block_signs}
-use Rattle.translation.specs.Within.{InRange, AllInRange, Within}
+use Rattle.translation.specs.Within.{AllInRange, Within}
 
 -- the steps, in terms of the limits of signs and blocks played
 pub steps_at_most : (m : Limits) (implied : Bool) (t : Score) → Valid implied t → Within m t → length (plays t) ≤ m.blocks → steps t ≤ m.blocks * (2 * m.signs) + 5
-steps_at_most m implied t v w h =
-    let a = few_steps implied t v in
-    let s = w.signs in
-    let b : length (plays t) * (2 * length (signs_of t)) ≤ m.blocks * (2 * m.signs) = mul-le-mul h (omega arith) in
-    omega arith
+steps_at_most m implied t v w h = steps_within implied t m.signs m.blocks v w.signs h
 
 -- the beats, in terms of the limits of numbers and blocks played
-called_at_most : (m : Limits) (cs : List Call) → AllInRange m (names cs) → called beats cs ≤ m.number * called each cs
-called_at_most m [] h = omega arith
-called_at_most m (c ∷ cs) h =
-    let a = called_at_most m cs h.1 in
-    let b : beats c.what * c.often ≤ m.number * c.often = mul-le-mul_right c.often (low c.what h.0) in
-    omega arith
-  where
-    low : (x : Leaf) → InRange m x → beats x ≤ m.number
-    low (block k l) r = r.1
+in_range_low : (m : Limits) (xs : List Leaf) → AllInRange m xs → AllLow m.number xs
+in_range_low m [] h = tt
+in_range_low m (block k l ∷ xs) h = (h.0.1, in_range_low m xs h.1)
 
 pub beats_at_most : (m : Limits) (t : Score) → Within m t → length (plays t) ≤ m.blocks → total beats (plays t) ≤ m.number * m.blocks
 beats_at_most m t w h =
     let r : AllInRange m (names (calls t)) = subst (AllInRange m) (block_signs t) w.numbers in
-    let a : called beats (calls t) ≤ m.number * length (plays t) = rw (blocks_played t) (called_at_most m (calls t) r) in
+    let a : called beats (calls t) ≤ m.number * length (plays t) = rw (blocks_played t) (called_low m.number (calls t) (in_range_low m (names (calls t)) r)) in
     let b : total beats (plays t) ≡ called beats (calls t) = beats_played t in
     let c : m.number * length (plays t) ≤ m.number * m.blocks = mul-le-mul_left m.number h in
     omega arith
