@@ -115,3 +115,26 @@ module _ (w : List ℕ) (s : Stretch) where
             go : (n : ℕ) → enough w y.at + 1 ≤ n → (p : ℕ) (o : Got) → GotAs w 0 p (Ok y) o → RanAs w 0 p r (on_item (λ j l. read_implied n (nil ▸ j) l) o)
             go n h p (item j l) q = rw q.0 (ih.1 n h p (nil ▸ j) q.1)
             go n h p (halted_in l) q = absurd q
+
+-- the first run that y leads on to is that of s
+abbrev pub FirstLeadsOn : List ℕ → Stretch → Stretch → Type 0
+FirstLeadsOn w s y = (s.at ≤ y.at) × (y.at ≤ length w) × ((r : Result Stretch Halt) → FirstIs w y r → FirstIs w s r)
+
+-- on past a `:|`, or past endings
+module _ (w : List ℕ) (s y : Stretch) (m : FirstLeadsOn w s y) (x : Stretch) (n : RunIs w 0 y (Ok x)) (o : x.last ≡ NoItem → ⊥) (z : Stretch) where
+  pub past_close : z ≡ closed_as Lacking x → sign_at w x.at ≡ Some RightRepeat → FirstLeadsOn w s z
+  past_close v k =
+      let a : z.at ≡ x.at + 1 = ap (λ q. q.at) v in
+      let b = n.0.0 in
+      let c = (stands w x.at RightRepeat k).0 in
+      let l = m.0 in
+      (omega arith, omega arith, λ r q. m.2 r (first_closes w y x n o z v k r q))
+
+  pub past_group : (g : Begun) → g ≡ begun_as Lacking x → sign_at w x.at ≡ Some OpenEnding → EndsIs w 0 g (Ok z) → FirstLeadsOn w s z
+  past_group g v k e =
+      let a : g.at ≡ x.at + 1 = ap (λ q. q.at) v in
+      let b = n.0.0 in
+      let c = e.0.0 in
+      let d = e.0.1 in
+      let l = m.0 in
+      (omega arith, d, λ r q. m.2 r (first_groups w y x n o g v k z r e q))

@@ -28,7 +28,7 @@ use Rattle.grammar.specs.Tallies.{capped}
 use Rattle.grammar.specs.Kinds.{kinds_of, sign_at, halt, halt_at, goes_on}
 use Rattle.grammar.specs.Stretches.{empty_stretch, block_stretch, followed, closed_as, begun_as, went_on, finished_as, summed, begun}
 use Rattle.grammar.specs.Promises.{enough, Inside, RunAs, RanAs, ItemsAs, GotAs, RunIs, ItemsIs, GroupIs, EndsIs}
-use Rattle.grammar.proofs.Heads.{head_sign, sign_head, stands, starts_item, ends_left, ends_ending, run_ends, run_wrong, end_wrong, halt_is, halt_within, goes_on_is}
+use Rattle.grammar.proofs.Heads.{head_sign, sign_head, stands, starts_item, ends_left, ends_ending, run_ends, run_wrong, end_wrong, halt_is, halt_within, goes_on_is, goes_within}
 use Rattle.grammar.proofs.Capped.{none_of_some}
 use Rattle.grammar.proofs.Adding.{empty_is, block_is, follow_is, close_is, begin_is, go_on_is, finish_is, none_capped}
 
@@ -110,6 +110,27 @@ module _ (w : List ℕ) (d : ℕ) (s : Stretch) where
         go : (n : ℕ) (t : Run) (o : Got) → GotAs w d s.at (Err h) o → RunAs w d s t (Err h) (on_item (λ i l. read_run n (t ▸ i) l) o)
         go n t (item i l) q = absurd q
         go n t (halted_in l) q = q
+
+-- the run that y leads on to is that of s
+abbrev pub LeadsOn : List ℕ → ℕ → Stretch → Stretch → Type 0
+LeadsOn w d s y = (s.at ≤ y.at) × (y.at ≤ length w) × ((r : Result Stretch Halt) → RunIs w d y r → RunIs w d s r)
+
+-- on past an item
+module _ (w : List ℕ) (d : ℕ) (s y : Stretch) (m : LeadsOn w d s y) where
+  pub past_block : (k n : ℕ) → sign_at w y.at ≡ Some (Block k n) → (z : Stretch) → z ≡ followed y (block_stretch (y.at + 1) n) → LeadsOn w d s z
+  past_block k n b z v =
+      let a : z.at ≡ y.at + 1 = ap (λ q. q.at) v in
+      let i = (stands w y.at (Block k n) b).0 in
+      let l = m.0 in
+      (omega arith, omega arith, λ r q. m.2 r (run_block w d y k n b z v r q))
+
+  pub past_item : sign_at w y.at ≡ Some LeftRepeat → (x : Stretch) → GroupIs w d y.at (Ok x) → (z : Stretch) → z ≡ followed y x → LeadsOn w d s z
+  past_item k x g z v =
+      let a : z.at ≡ x.at = ap (λ q. q.at) v in
+      let b = g.0.0 in
+      let c = g.0.1 in
+      let l = m.0 in
+      (omega arith, omega arith, λ r q. m.2 r (run_item w d y k x g z v r q))
 
 -- a run from its start on: with no item, or with a last one
 pub last_some : (b : Bool) → ◌≡◌ {A = Last} (cond b Group Plain) NoItem → ⊥
@@ -293,3 +314,16 @@ module _ (w : List ℕ) (d : ℕ) (g : Begun) where
               rw (q.0, splits, goes_on_is w after, s, next)
               (ih.1 n h b p o m (es then (r ▸ i)) j (a ∙ ap₂ went_on e (ended_as_lem b p o m es j e (r ▸ i) q.1) ∙ go_on_is b p o m es (r ▸ i)))
           go n h b p o m es j e _ q = absurd q
+
+-- the endings that y leads on to are those of g
+abbrev pub EndsLeadOn : List ℕ → ℕ → Begun → Begun → Type 0
+EndsLeadOn w d g y = (g.at ≤ y.at) × (y.at ≤ length w) × ((r : Result Stretch Halt) → EndsIs w d y r → EndsIs w d g r)
+
+-- on past an ending
+pub past_ending : (w : List ℕ) (d : ℕ) (g y : Begun) → EndsLeadOn w d g y → (x : Stretch) → ItemsIs w d y.at (Ok x) → sign_at w x.at ≡ Some CloseEnding → goes_on w (x.at + 1) ≡ true → (z : Begun) → z ≡ went_on y x → EndsLeadOn w d g z
+past_ending w d g y m x v k s z a =
+    let c : z.at ≡ x.at + 3 = ap (λ q. q.at) a in
+    let b = v.0.0 in
+    let i = goes_within w (x.at + 1) s in
+    let l = m.0 in
+    (omega arith, omega arith, λ r q. m.2 r (ends_more w d y x v k z a s r q))

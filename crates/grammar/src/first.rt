@@ -13,17 +13,19 @@ pub(crate) fn read_first(words: &[u64], run: Stretch) -> Result<Stretch, Halt>
     requires { run.at ≤ length words.now }
     ensures { FirstIs words.now run result }
 {
-    let first = run::read_run(words, 0, run)?;
-    if let Last::NoItem = first.last {
-        return Err(Halt { at: first.at });
-    }
-    match place::sign_at(words, first.at) {
-        Some(Sign::RightRepeat) => read_first(words, first.close(Left::Lacking)),
-        Some(Sign::OpenEnding) => {
-            let group = run::read_endings(words, 0, first.begin(Left::Lacking))?;
-            read_first(words, group)
+    let mut read = run;
+    'closes: loop {
+        let first = run::read_run(words, 0, read)?;
+        if let Last::NoItem = first.last {
+            return Err(Halt { at: first.at });
         }
-        _ if place::ends_here(words, first.at) => Ok(first),
-        _ => Err(Halt { at: first.at }),
+        match place::sign_at(words, first.at) {
+            Some(Sign::RightRepeat) => read = first.close(Left::Lacking),
+            Some(Sign::OpenEnding) => {
+                read = run::read_endings(words, 0, first.begin(Left::Lacking))?;
+            }
+            _ if place::ends_here(words, first.at) => return Ok(first),
+            _ => return Err(Halt { at: first.at }),
+        }
     }
 }

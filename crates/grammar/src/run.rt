@@ -14,21 +14,25 @@ pub(crate) fn read_run(words: &[u64], depth: usize, run: Stretch) -> Result<Stre
     requires { (run.at ≤ length words.now) × (depth ≤ run.at) }
     ensures { RunIs words.now depth run result }
 {
-    match place::sign_at(words, run.at) {
-        Some(Sign::Block(_, beats)) => {
-            let block = Stretch::block(run.at + 1, beats as u64);
-            read_run(words, depth, run.follow(block))
+    let mut read = run;
+    'items: loop {
+        match place::sign_at(words, read.at) {
+            Some(Sign::Block(_, beats)) => {
+                let block = Stretch::block(read.at + 1, beats as u64);
+                read = read.follow(block);
+            }
+            Some(Sign::LeftRepeat) => {
+                let item = read_group(words, depth, read.at)?;
+                read = read.follow(item);
+            }
+            _ => return Ok(read),
         }
-        Some(Sign::LeftRepeat) => {
-            let item = read_group(words, depth, run.at)?;
-            read_run(words, depth, run.follow(item))
-        }
-        _ => Ok(run),
     }
 }
 
 // The items of a run that begins at a place; it has one at least.
 #[cycle(read_endings_read_group_read_items_read_run)]
+#[inline(always)]
 pub(crate) fn read_items(words: &[u64], depth: usize, at: usize) -> Result<Stretch, Halt>
     requires { (at ≤ length words.now) × (depth ≤ at) }
     ensures { ItemsIs words.now depth at result }
@@ -63,16 +67,20 @@ pub(crate) fn read_endings(words: &[u64], depth: usize, group: Begun) -> Result<
     requires { (group.at ≤ length words.now) × (depth ≤ group.at) }
     ensures { EndsIs words.now depth group result }
 {
-    let ending = read_items(words, depth, group.at)?;
-    let Some(Sign::CloseEnding) = place::sign_at(words, ending.at) else {
-        return Err(place::halt_at(words, ending.last, ending.at));
-    };
-    let next = ending.at + 1;
-    if place::goes_on(words, next) {
-        return read_endings(words, depth, group.go_on(ending));
+    let mut begun = group;
+    'endings: loop {
+        let ending = read_items(words, depth, begun.at)?;
+        let Some(Sign::CloseEnding) = place::sign_at(words, ending.at) else {
+            return Err(place::halt_at(words, ending.last, ending.at));
+        };
+        let next = ending.at + 1;
+        if place::goes_on(words, next) {
+            begun = begun.go_on(ending);
+            continue;
+        }
+        if begun.endings == 0 {
+            return Err(place::halt_at(words, Last::Group, next));
+        }
+        return Ok(begun.finish(ending));
     }
-    if group.endings == 0 {
-        return Err(place::halt_at(words, Last::Group, next));
-    }
-    Ok(group.finish(ending))
 }

@@ -89,6 +89,7 @@ impl Stretch {
     }
 
     // The run as a `:|` closes it.
+    #[inline(always)]
     pub(crate) fn close(self, left: Left) -> Stretch
         requires { self.at < usize.MAX }
         ensures { result ≡ closed_as left self }

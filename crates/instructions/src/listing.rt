@@ -31,21 +31,18 @@ struct Tables {
 }
 
 impl Tables {
-    // The tables of a listing, filled going up from its end.
-    fn of(listing: &[u64]) -> Tables
-        ensures { Filled document01 listing.now 0 result }
+    // Fills the tables in place with those of a listing, going up from its end.
+    fn fill(&mut self, listing: &[u64])
+        ensures { Filled document01 listing.now 0 self.new }
     {
         let n = listing.len();
-        let mut tables = Tables {
-            loops: [Looped { mark: n, rep: n }; LOOPS],
-            labels: [n; LABELS],
-        };
+        self.loops = [Looped { mark: n, rep: n }; LOOPS];
+        self.labels.fill(n);
         for i in (0..n).rev() {
             if let Ok(x) = Instruction::try_from(listing[i]) {
-                tables.put(i, x);
+                self.put(i, x);
             }
         }
-        tables
     }
 
     // Puts the place i of an instruction that marks or repeats a loop, or marks a label.
@@ -107,7 +104,11 @@ impl Tables {
 pub fn check(listing: &[u64]) -> Checked
     ensures { result ≡ checking document01 listing.now }
 {
-    let tables = Tables::of(listing);
+    let mut tables = Tables {
+        loops: [Looped { mark: 0, rep: 0 }; LOOPS],
+        labels: [0; LABELS],
+    };
+    tables.fill(listing);
     Checked {
         tested: tables.test(listing),
         loops: tables.loops,

@@ -2,6 +2,7 @@
 -- Assumes nothing.
 use Rattle.std.specs.Prelude.{Err, None, Ok, Option, Some}
 use mathlib.Core.Path.{◌≡◌, refl, sym, ap, ◌∙◌}
+use mathlib.Core.Bool.{Bool, cond}
 use mathlib.Core.List.{List, [], map}
 use Prim.Native.Nat.{ℕ, zero, suc, ◌+◌, ◌-◌, ◌≤◌, ◌<◌}
 use native.Mathlib.Nat.{not-suc-le-zero}
@@ -9,7 +10,9 @@ use native.Mathlib.Numerals.{add-one}
 use native.Mathlib.Omega.{arith}
 use borrow.Author.Tests.{lt-ltb, le-ltb}
 use lib.ListN.{length, take, drop, set, length-set, length-map}
+use lib.Dec.{ltb}
 use lib.Seq.{sets, sets-eq, take_at}
+use Rattle.std.proofs.lemmas.Bool.Decides.{nat_tests}
 use Rattle.refusals.specs.declared.Refusal.{Refusal}
 use Rattle.refusals.specs.declared.Refusal.TheVariants.{TextTooLong, Unreadable}
 use Rattle.refusals.specs.Limits.{Limits}
@@ -146,3 +149,16 @@ first_words text zs n e h =
     let ws = map word_of (signs_of text) in
     let k : length ws ≡ n = length-map (signs_of text) word_of ∙ counted_size (length (signs_of text)) n (scanned text 0).stop e in
     rw (sets-eq ws zs 0 (omega arith)) (take_at ws (drop (0 + length ws) zs) n k)
+
+-- signs that are read are all there are, and fit the buffer
+pub read_size : (l : Limits) (text : List ℕ) (room n : ℕ) → reading_of l text room ≡ Ok n → (length (signs_of text) ≡ n) × (n ≤ room)
+unfolding reading_of
+read_size l text room n e = by (length (signs_of text)) (scanned text 0).stop (ltb l.bytes (length text)) e
+  where
+    by : (m : ℕ) (c : Coming) (t : Bool) → cond t (Err TextTooLong) (room_for l room (counted_by m c)) ≡ Ok n → (m ≡ n) × (n ≤ room)
+    by m nothing t e = grind (arith, nat_tests)
+    by m (sign s b d) t e = grind (arith, nat_tests)
+    by m (unreadable b) t e = grind (arith, nat_tests)
+
+pub fits_room : (l : Limits) (text : List ℕ) (room n : ℕ) → reading_of l text room ≡ Ok n → n ≤ room
+fits_room l text room n e = (read_size l text room n e).1

@@ -2,10 +2,10 @@
 -- Assumes nothing.
 use Rattle.std.specs.Prelude.{None, Option, Some}
 use mathlib.Core.Path.{◌≡◌, refl, sym, ap, ◌∙◌}
-use mathlib.Core.Bool.{Bool, true, false, cond}
+use mathlib.Core.Bool.{Bool, true, false, cond, ◌&&◌}
 use mathlib.Core.List.{List, [], ◌∷◌}
 use Prim.Native.Nat.{ℕ, zero, suc, ◌+◌, ◌*◌, ◌-◌, ◌^◌, ◌≤◌, ◌<◌}
-use native.Mathlib.Nat.{not-suc-le-zero, pow-suc, pow-le-pow_right}
+use native.Mathlib.Nat.{zero-add, not-suc-le-zero, pow-suc, pow-le-pow_right}
 use native.Mathlib.Numerals.{add-one}
 use native.Mathlib.Omega.{arith}
 use borrow.Author.Tests.{leb-true, eq-eqb, ne_eqb}
@@ -13,7 +13,10 @@ use lib.Dec.{leb}
 use lib.ListN.{length, get_or, take, drop, length-drop, drop_of_length-le}
 use lib.Seq.{drop-cons}
 use Rattle.signs.specs.Text.{front, beyond, past}
-use Rattle.signs.specs.Numbers.{digit, AreDigits, leading, decimal, numeral, number_at, closed, pair_at}
+use Rattle.std.proofs.lemmas.List.{length-take-le, take_all}
+use Rattle.std.proofs.lemmas.Bool.{leb-false, lt-leb}
+use Rattle.std.proofs.lemmas.Option.{same_Some}
+use Rattle.signs.specs.Numbers.{digit, AreDigits, leading, decimal, numeral, number_of, number_at, closed, pair_at}
 use mathlib.Core.Logic.{◌⊎◌, inl, inr}
 use Rattle.signs.proofs.Gaps.{same_place, clash, both_true, front_le}
 
@@ -78,6 +81,41 @@ unfolding numeral leading
 number_none text at end e (inl h) = absurd (omega arith)
 number_none text at end e (inr h) = rw (drop_of_length-le text {i = at} (omega (arith, front_le digit (drop at text), length-drop at text))) refl
 
+-- the digits at the front of the first n bytes are the first n of the digits
+leading_near : (n : ℕ) (l : List ℕ) → leading (take n l) ≡ take n (leading l)
+unfolding leading
+leading_near zero [] = refl
+leading_near zero (b ∷ bs) = refl
+leading_near (suc n) [] = refl
+leading_near (suc n) (b ∷ bs) = go (digit b) (leading_near n bs)
+  where
+    go : (t : Bool) → leading (take n bs) ≡ take n (leading bs) → cond t (b ∷ leading (take n bs)) [] ≡ take (suc n) (cond t (b ∷ leading bs) [])
+    go true h = ap (λ l. b ∷ l) h
+    go false h = refl
+
+-- seven digits and more are no number
+numeral_many : (ds : List ℕ) → 6 < length ds → numeral ds ≡ false
+unfolding numeral
+numeral_many ds h = rw (lt-leb (length ds) 6 h) (go (leb 1 (length ds)))
+  where
+    go : (t : Bool) → t && false ≡ false
+    go true = refl
+    go false = refl
+
+-- the first seven digits tell of all of them what number they are
+number_of_seven : (at : ℕ) (ds : List ℕ) → number_of at (take 7 ds) ≡ number_of at ds
+number_of_seven at ds = go (leb (length ds) 7) refl
+  where
+    go : (t : Bool) → leb (length ds) 7 ≡ t → number_of at (take 7 ds) ≡ number_of at ds
+    go true e = ap (number_of at) (take_all 7 ds (leb-true (length ds) 7 e))
+    go false e =
+        let h = leb-false (length ds) 7 e in
+        rw (numeral_many ds (omega arith), numeral_many (take 7 ds) (rw (length-take-le 7 ds (omega arith)) (omega arith))) refl
+
+-- the first seven bytes tell what number stands at the front
+pub number_near : (text near : List ℕ) → near ≡ take 7 text → number_at near 0 ≡ number_at text 0
+number_near text near e = ap (λ l. number_of 0 (leading l)) e ∙ ap (number_of 0) (leading_near 7 text) ∙ number_of_seven 0 (leading text)
+
 -- the first i digits say v
 pub record Said (ds : List ℕ) (i v : ℕ) : Type 0 where
   pub small : v < 10 ^ i
@@ -112,6 +150,27 @@ number_reach text at k p e =
     go : (ds : List ℕ) (t : Bool) → numeral ds ≡ t → cond {A = Option (ℕ × ℕ)} t (Some (decimal 0 ds, at + length ds)) None ≡ Some (k, p) → (1 ≤ length ds) × (at + length ds ≡ p)
     go ds true n f = (leb-true 1 (length ds) (both_true (leb 1 (length ds)) _ n).0, same_place _ _ _ _ f)
     go ds false n f = clash (cc)
+
+-- where the text has ended no number stands
+pub number_past : (text : List ℕ) (at : ℕ) → length text ≤ at → None ≡ number_at text at
+unfolding numeral leading
+number_past text at h = rw (drop_of_length-le text {i = at} (omega arith)) refl
+
+-- a number at a place is the one at the front of what follows
+module _ (text rest : List ℕ) (at : ℕ) (e : rest ≡ drop at text) where
+  pub number_absent : number_at rest 0 ≡ None → None ≡ number_at text at
+  number_absent f = go (leading (drop at text)) (numeral (leading (drop at text))) refl (ap (λ l. number_at l 0) (sym e) ∙ f)
+    where
+      go : (ds : List ℕ) (t : Bool) → numeral ds ≡ t → cond {A = Option (ℕ × ℕ)} t (Some (decimal 0 ds, 0 + length ds)) None ≡ None → None ≡ cond {A = Option (ℕ × ℕ)} t (Some (decimal 0 ds, at + length ds)) None
+      go ds true n f = clash (cc)
+      go ds false n f = refl
+
+  pub number_from : (v n : ℕ) → number_at rest 0 ≡ Some (v, n) → Some (v, at + n) ≡ number_at text at
+  number_from v n f = go (leading (drop at text)) (numeral (leading (drop at text))) refl (ap (λ l. number_at l 0) (sym e) ∙ f)
+    where
+      go : (ds : List ℕ) (t : Bool) → numeral ds ≡ t → cond {A = Option (ℕ × ℕ)} t (Some (decimal 0 ds, 0 + length ds)) None ≡ Some (v, n) → Some (v, at + n) ≡ cond {A = Option (ℕ × ℕ)} t (Some (decimal 0 ds, at + length ds)) None
+      go ds true m f = ap Some (sym (rw (← zero-add (length ds)) (ap (λ r. (r.0, at + r.1)) (same_Some _ _ f))))
+      go ds false m f = clash (cc)
 
 -- a pair, by what stands at its four places
 module _ (text : List ℕ) (at : ℕ) where

@@ -7,7 +7,7 @@ use mathlib.Core.List.{List, [], ◌∷◌}
 use mathlib.Core.Logic.{◌↔◌}
 use Prim.Native.Nat.{ℕ, zero, suc, ◌+◌, ◌*◌, ◌/◌, ◌%◌, ◌^◌, ◌≤◌, ◌<◌}
 use native.Mathlib.Omega.{arith}
-use borrow.Author.Tests.{ltb-true, lt-ltb, eqb-true}
+use borrow.Author.Tests.{ltb-true, lt-ltb, eqb-true, ne_eqb}
 use lib.Dec.{eqb}
 use lib.ListN.{get_or}
 use Rattle.signs.specs.declared.sign.Jumped.TheVariants.{Dc, DcCoda, DcFine, Ds, DsCoda, DsFine}
@@ -54,6 +54,25 @@ unpacked_parts kind a b s e = one (eqb kind 1) refl e
 -- the parts of the sign that a word is
 pub word_parts : (w : ℕ) (s : Sign) → sign_of w ≡ Some s → parts_of s ≡ parts (w % 256) (w / 256 % 268435456) (w / 68719476736)
 word_parts w s e = unpacked_parts (w % 256) (w / 256 % 268435456) (w / 68719476736) s e
+
+-- a word that is its kind alone is the sign of that kind; with numbers beside it is none
+module _ (w : ℕ) (h : w % 256 ≡ 1 → ⊥) (g : w % 256 ≡ 2 → ⊥) where
+  pub word_alone : w ≡ w % 256 → plain_sign (w % 256) ≡ sign_of w
+  word_alone e =
+      let a : w / 256 % 268435456 ≡ 0 = omega arith in
+      let b : w / 68719476736 ≡ 0 = omega arith in
+      sym (rw (ne_eqb (w % 256) 1 h, ne_eqb (w % 256) 2 g, a, b) refl)
+
+  pub word_with_numbers : (w ≡ w % 256 → ⊥) → None ≡ sign_of w
+  word_with_numbers n = sym (rw (ne_eqb (w % 256) 1 h, ne_eqb (w % 256) 2 g) (go (eqb (w / 256 % 268435456) 0) (eqb (w / 68719476736) 0) refl refl))
+    where
+      go : (x y : Bool) → eqb (w / 256 % 268435456) 0 ≡ x → eqb (w / 68719476736) 0 ≡ y → cond (x && y) (plain_sign (w % 256)) None ≡ None
+      go true true p q =
+          let a = eqb-true (w / 256 % 268435456) 0 p in
+          let b = eqb-true (w / 68719476736) 0 q in
+          absurd (n (omega arith))
+      go true false p q = refl
+      go false y p q = refl
 
 -- the kind of a sign is 1 to 16
 pub kind_range : (s : Sign) → (1 ≤ (parts_of s).kind) × ((parts_of s).kind ≤ 16)

@@ -27,14 +27,14 @@ fn value_of(digits: &[u8]) -> u32
 {
     let mut value = 0;
     for digit in digits {
-        value = value * 10 + (*digit - b'0') as u32;
+        value = value * 10 + (*digit as u32 - b'0' as u32);
     }
     value
 }
 
-// The number at a place, and the place after it.
+// The number that all digits from a place on are, and the place after it.
 #[tactic(auto, using(crate::proofs::Digits::digits_there, crate::proofs::Digits::digits_end, crate::proofs::Digits::number_none, crate::proofs::Digits::digits_all, crate::proofs::Digits::numeral_few))]
-fn read_number(text: &[u8], at: usize) -> Option<(u32, usize)>
+fn read_digits(text: &[u8], at: usize) -> Option<(u32, usize)>
     ensures { result ≡ number_at text.now at }
 {
     let end = past(text, at, is_digit);
@@ -43,6 +43,32 @@ fn read_number(text: &[u8], at: usize) -> Option<(u32, usize)>
         return None;
     }
     Some((value_of(digits), end))
+}
+
+// The number at the front of a text, and the place after it: seven digits are no number, however many follow.
+#[tactic(auto, using(crate::proofs::Digits::number_near))]
+#[inline(always)]
+fn read_front(text: &[u8]) -> Option<(u32, usize)>
+    ensures { result ≡ number_at text.now 0 }
+{
+    if 7 < text.len() {
+        read_digits(&text[..7], 0)
+    } else {
+        read_digits(text, 0)
+    }
+}
+
+// The number at a place, and the place after it.
+#[tactic(auto, using(crate::proofs::Digits::number_past, crate::proofs::Digits::number_absent, crate::proofs::Digits::number_from, crate::proofs::Digits::number_reach))]
+#[inline(always)]
+fn read_number(text: &[u8], at: usize) -> Option<(u32, usize)>
+    ensures { result ≡ number_at text.now at }
+{
+    if text.len() <= at {
+        return None;
+    }
+    let (value, count) = read_front(&text[at..])?;
+    Some((value, at + count))
 }
 
 // The two numbers at a place, and the place after them: spaces, a number, a comma, spaces, a number and a closing bracket.

@@ -20,7 +20,7 @@ pub(crate) fn is_space(b: u8) -> bool
 pub(crate) fn is_separator(b: u8) -> bool
     ensures { result ≡ separator b }
 {
-    matches!(b, b' ' | b'\t' | b'\n' | b'\r')
+    b == b' ' || (b < b' ' && matches!(b, b'\t' | b'\n' | b'\r'))
 }
 
 // The first place from `at` on whose byte does not pass a test.
@@ -28,10 +28,14 @@ pub(crate) fn past<F: Fn(u8) -> bool>(text: &[u8], at: usize, passes: F) -> usiz
     requires { F.IsAlwaysCallable passes }
     ensures { (test : ℕ → Bool) → ((b : ℕ) (t : Bool) → F.post passes b t → t ≡ test b) → result ≡ beyond test text.now at }
 {
-    for i in at..text.len() {
-        if !passes(text[i]) {
-            return i;
+    if text.len() <= at {
+        return at;
+    }
+    let rest = &text[at..];
+    for (i, b) in rest.iter().enumerate() {
+        if !passes(*b) {
+            return at + i;
         }
     }
-    at.max(text.len())
+    text.len()
 }

@@ -47,21 +47,25 @@ impl From<Sign> for Parts {
     }
 }
 
-// The word of a sign; 0, which is no sign's, where a number does not fit.
+// The word of a sign, its kind where it carries no number; 0, which is no sign's, where a number does not fit.
 impl From<Sign> for u64 {
     ghost from_gives = { λ s w. w ≡ word_of s };
 
     fn from(sign: Sign) -> u64 {
-        u64::from(Parts::from(sign))
+        match sign {
+            Sign::Block(_, _) | Sign::Time(_, _) => u64::from(Parts::from(sign)),
+            _ => Parts::from(sign).kind as u64,
+        }
     }
 }
 
-// The sign that a word packs.
+// The sign that a word packs; where that carries no number, the word is its kind.
 impl TryFrom<u64> for Sign {
     type Error = NotASign;
 
     ghost try_from_gives = { λ w s. s ≡ ok_or (sign_of w) (record { 0 = w }) };
 
+    #[tactic(auto, using(crate::proofs::Packing::word_alone, crate::proofs::Packing::word_with_numbers))]
     fn try_from(word: u64) -> Result<Sign, NotASign> {
         let Parts {
             kind,
@@ -71,7 +75,7 @@ impl TryFrom<u64> for Sign {
         match (kind, first, second) {
             (1, k, l) => Ok(Sign::Block(k, l)),
             (2, m, n) => Ok(Sign::Time(m, n)),
-            (_, 0, 0) => plain(kind).ok_or(NotASign(word)),
+            _ if word == kind as u64 => plain(kind).ok_or(NotASign(word)),
             _ => Err(NotASign(word)),
         }
     }

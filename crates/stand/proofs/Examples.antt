@@ -11,6 +11,7 @@ use Rattle.instructions.specs.Words.{packed, decoded, unpacked}
 use Rattle.instructions.specs.Places.{least}
 use Rattle.instructions.specs.Test.{keeps, test_listing}
 use Rattle.machine.specs.Machine.{run, step, plays, find, position, fresh_of}
+use Rattle.stand.specs.declared.chunk.TheConstants.{CHUNK}
 use Rattle.stand.specs.declared.Stop.TheVariants.{AllowanceUsed, BufferFull}
 use Rattle.stand.specs.Positions.{position_fits}
 use Rattle.stand.specs.Runs.{ended, outcome, running}
@@ -31,3 +32,7 @@ one_at_a_time a b = refl
 pub no_buffer : running document01 two (fresh_of document01) 5 [] ≡ outcome (Ok (ended BufferFull 0 0 (fresh_of document01))) []
 unfolding two running packed decoded unpacked least keeps test_listing run step plays find position_fits
 no_buffer = refl
+
+-- the buffer that most callers want has 64 entries
+pub chunk_entries : CHUNK ≡ 64
+chunk_entries = refl

@@ -178,7 +178,7 @@ pub(crate) fn runs(rt: &impl Print) -> io::Result<()> {
     test(
         rt,
         &[
-            ("one entry more than a chunk", &[b(0, 1); CHUNK + 1]),
+            ("one entry more than a chunk", &[b(0, 1); 65]),
             ("never halts", &[lp(0), lb(0), jmp(0, 1, 0), rep(0, 1)]),
         ],
     )

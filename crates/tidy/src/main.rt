@@ -33,7 +33,7 @@ fn fill<R: Read>(input: &mut R, text: &mut [u8]) -> usize
 }
 
 // Writes the signs of a text into a buffer; answers how many bytes there are.
-#[tactic(auto, using(crate::proofs::Words::words_read, crate::proofs::Words::words_written))]
+#[tactic(auto, using(crate::proofs::Words::words_read, writing::proofs::Lining::fits_room))]
 fn tidy(text: &[u8], out: &mut [u8]) -> Result<usize, Refusal>
     ensures answer { result ≡ tidied text.now (length out.old) }
     ensures buffer { out.new ≡ tidied_buffer text.now out.old }

@@ -1,8 +1,8 @@
 -- Texts laid one behind the other are laid together; the digits of a number.
 -- Assumes nothing.
-use Rattle.std.proofs.Common.{◌≡◌, refl, sym, ◌∙◌, subst, ℕ, suc, ◌+◌, ◌<◌, List, [], ◌∷◌, ◌++◌, length, set, T, leb, arith, append-nil, length-append, add-zero, rules}
+use Rattle.std.proofs.Common.{◌≡◌, refl, sym, ◌∙◌, subst, ℕ, suc, ◌+◌, ◌/◌, ◌%◌, ◌<◌, ◌≤◌, List, [], ◌∷◌, ◌++◌, length, set, T, leb, arith, append-nil, length-append, add-zero, rules}
 use Rattle.std.specs.Fmt.{decimal}
-use Rattle.std.proofs.lemmas.Fmt.{decimal_from_appends, length-decimal-le}
+use Rattle.std.proofs.lemmas.Fmt.{decimal_digit, decimal_step, decimal_from_appends, length-decimal-le}
 use Rattle.std.proofs.lemmas.List.{take-append-drop}
 use Rattle.std.proofs.lemmas.List.Edits.{sets, sets-eq}
 use lib.Dec.{leb→le}
@@ -41,6 +41,10 @@ laid_join {p} {q} {r} {xs} {ys} a b =
 pub digits_written : (n : ℕ) → n < 1000000 → digits n ≡ decimal n
 unfolding digits_in
 digits_written n h = decimal_from_appends digits_in (search rules) 6 n (omega arith) (length-decimal-le 6 n (omega arith) (omega arith) (omega arith))
+
+-- two digits
+pub two_digits : (n : ℕ) → 10 ≤ n → n < 100 → (48 + n / 10) ∷ (48 + n % 10) ∷ [] ≡ decimal n
+two_digits n low high = rw (decimal_step n low (omega arith), decimal_digit (n / 10) (omega arith)) refl
 
 pub laid_pair : {q r s t u : Page} (k l : ℕ) → T (both_small document01 k l)
     → Laid q (decimal k) r → Laid r (44 ∷ []) s → Laid s (decimal l) t → Laid t (41 ∷ []) u → Laid q (pair_text k l) u

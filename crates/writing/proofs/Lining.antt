@@ -1,18 +1,23 @@
 -- A list of words laid as text, word by word.
 -- Assumes nothing.
-use Rattle.std.specs.Prelude.{None, Some, Ok}
-use Rattle.std.proofs.Common.{◌≡◌, refl, sym, ap, ◌∙◌, Bool, true, false, cond, ℕ, ◌+◌, ◌*◌, ◌^◌, ◌<◌, ◌≤◌, List, [], ◌∷◌, ◌++◌, map, length, get_or, drop, arith, append_assoc, length-append, add-one, zero-add, drop-cons}
-use borrow.Author.Tests.{le-ltb, eq-eqb, ne_eqb}
-use lib.Dec.{eqb}
+use Rattle.std.specs.Prelude.{None, Ok, Option, Some}
+use Rattle.std.specs.List.{position_or_len}
+use Rattle.std.proofs.Common.{◌≡◌, refl, sym, ap, ◌∙◌, Bool, true, false, not, cond, ◌&&◌, T, ℕ, zero, suc, ◌+◌, ◌*◌, ◌^◌, ◌<◌, ◌≤◌, List, [], ◌∷◌, ◌++◌, map, length, get_or, drop, arith, append_assoc, length-append, add-one, drop-cons}
+use Rattle.std.proofs.lemmas.Bool.Decides.{nat_tests}
+use Rattle.std.proofs.lemmas.List.Recursion.{is_position_or_len}
+use borrow.Author.Tests.{lt-leb, ltb-true, ltb-false, eq-eqb, ne_eqb}
+use lib.Dec.{eqb, leb}
 use lib.ListN.{drop_of_length-le}
-use Rattle.refusals.specs.Limits.{document01}
+use Rattle.refusals.specs.Limits.{Limits, document01}
 use Rattle.signs.specs.declared.sign.Sign.{Sign}
 use Rattle.signs.specs.Text.{front}
-use Rattle.signs.specs.Words.{sign_of}
+use Rattle.signs.specs.Words.{parts_of, word_of, sign_of}
+use Rattle.signs.proofs.Packing.{word_parts, sign_again}
+use Rattle.words.specs.Words.{fits, parts_in}
 use Rattle.writing.specs.declared.page.Page.{Page}
 use Rattle.writing.specs.Laid.{Laid}
 use Rattle.writing.specs.Spell.{spell, spaced, text_of}
-use Rattle.writing.specs.Writing.{writable, sign_in, signs_in, measured}
+use Rattle.writing.specs.Writing.{both_small, small, small_in, writable, sign_in, signs_in, writing_of}
 use Rattle.writing.proofs.Spelling.{spell_length}
 use Rattle.writing.proofs.Laying.{laid_none, laid_as, laid_join}
 
@@ -51,31 +56,51 @@ later_length first (w ∷ ws) = omega (arith, length-append (entry_of first w) (
 text_length : (ws : List ℕ) → length ws ≤ 1024 → length (text_of (signs_in ws)) < 2 ^ 64
 text_length ws h = omega (arith, later_length true ws, ap length (text_later ws))
 
--- a word whose sign can be written
-pub record Writes (w : ℕ) (s : Sign) : Type 0 where
-  pub is : sign_of w ≡ Some s
-  pub good : writable document01 w ≡ true
+-- a word that can be written: its sign, whose numbers are small and whose parts are the word's
+pub record Writes (w : ℕ) : Type 0 where
+  pub the : Sign
+  pub is : sign_of w ≡ Some the
+  pub good : T (small document01 the)
+  pub same : parts_in w ≡ parts_of the
 
-pub writes : (w : ℕ) (s : Sign) → Some s ≡ cond (writable document01 w) (sign_of w) None → Writes w s
-writes w s e = go (writable document01 w) refl e
+pub writes : (w : ℕ) → T (writable document01 w) → Writes w
+writes w t = go (sign_of w) refl t
   where
-    go : (t : Bool) → writable document01 w ≡ t → Some s ≡ cond t (sign_of w) None → Writes w s
-    go true q e = record { is = sym e; good = q }
-    go false q e = absurd (cc)
+    go : (u : Option Sign) → sign_of w ≡ u → T (small_in document01 u) → Writes w
+    go (Some s) e t = record { the = s; is = e; good = t; same = sym (word_parts w s e) }
+    go None e t = absurd t
 
--- i words are laid, each of which can be written
+-- where all pass a test, each does
+pub all_pass : (f : ℕ → Bool) (l : List ℕ) → length l ≤ front f l → (i : ℕ) → i < length l → T (f (get_or l i 0))
+all_pass f [] e i h = absurd (omega arith)
+all_pass f (x ∷ l) e i h = go (f x) refl e i h (all_pass f l)
+  where
+    go : (b : Bool) → f x ≡ b → suc (length l) ≤ cond b (suc (front f l)) 0 → (i : ℕ) → i < suc (length l)
+        → (length l ≤ front f l → (j : ℕ) → j < length l → T (f (get_or l j 0))) → T (f (get_or (x ∷ l) i 0))
+    go true p e zero h ih = rw p tt
+    go true p e (suc i) h ih = ih (omega arith) i (omega arith)
+    go false p e i h ih = absurd (omega arith)
+
+-- the first word that can't be written stands behind those that can
+pub first_bad : (ws : List ℕ) → front (writable document01) ws ≡ position_or_len (λ w. not (writable document01 w)) ws
+first_bad = is_position_or_len (front (writable document01)) (λ w. not (writable document01 w)) refl (λ w ws. go (writable document01 w) (front (writable document01) ws))
+  where
+    go : (t : Bool) (n : ℕ) → cond t (suc n) 0 ≡ cond (not t) 0 (1 + n)
+    go true n = omega arith
+    go false n = refl
+
+-- i words are laid
 pub record Lining (words : List ℕ) (begin page : Page) (i : ℕ) : Type 0 where
   pub done : List ℕ
-  pub good : front (writable document01) words ≡ i + front (writable document01) (drop i words)
   pub laid : Laid begin done page
   pub whole : text_of (signs_in words) ≡ done ++ later_of (eqb i 0) (drop i words)
 
 pub none_lined : (words : List ℕ) (page : Page) → Lining words page page 0
 none_lined words page =
-    record { done = []; good = sym (zero-add (front (writable document01) words)); laid = laid_none page; whole = text_later words }
+    record { done = []; laid = laid_none page; whole = text_later words }
 
 module _ (words : List ℕ) (begin page : Page) (i : ℕ) (k : Lining words begin page i) where
-  module _ (h : i < length words) (s : Sign) (e : Some s ≡ cond (writable document01 (get_or words i 0)) (sign_of (get_or words i 0)) None) where
+  module _ (h : i < length words) (t : T (writable document01 (get_or words i 0))) where
     one_more : (next : Page) → Laid page (entry_of (eqb i 0) (get_or words i 0)) next → Lining words begin next (i + 1)
     one_more next a =
         let w = get_or words i 0 in
@@ -83,23 +108,26 @@ module _ (words : List ℕ) (begin page : Page) (i : ℕ) (k : Lining words begi
         let z : eqb (i + 1) 0 ≡ false = ne_eqb (i + 1) 0 (λ e. omega arith) in
         record {
           done = k.done ++ entry_of (eqb i 0) w;
-          good = k.good ∙ rw (c, (writes w s e).good) (omega arith);
           laid = laid_join k.laid a;
           whole = k.whole ∙ rw (c, z) (sym (append_assoc k.done (entry_of (eqb i 0) w) (later_of false (drop (i + 1) words))));
         }
 
-    spelled : spell s ≡ spell (sign_in (sign_of (get_or words i 0)))
-    spelled = ap (λ u. spell (sign_in u)) (sym (writes (get_or words i 0) s e).is)
+    -- a sign is laid by its word's parts
+    abbrev Laying : Page → Page → Type 0
+    Laying mid next = (s : Sign) → parts_in (get_or words i 0) ≡ parts_of s → Laid mid (spell s) next
 
-    pub first_more : i ≤ 0 → (next : Page) → Laid page (spell s) next → Lining words begin next (i + 1)
-    first_more z next a =
-        let q : spell s ≡ entry_of (eqb i 0) (get_or words i 0) = rw (eq-eqb i 0 (omega arith)) spelled in
-        one_more next (laid_as q a)
+    laid_word : (mid next : Page) → Laying mid next → Laid mid (spell (sign_in (sign_of (get_or words i 0)))) next
+    laid_word mid next b = let r = writes (get_or words i 0) t in laid_as (ap (λ u. spell (sign_in u)) (sym r.is)) (b r.the r.same)
 
-    pub next_more : 0 < i → (mid next : Page) → Laid page (32 ∷ []) mid → Laid mid (spell s) next → Lining words begin next (i + 1)
+    pub first_more : i ≤ 0 → (next : Page) → Laying page next → Lining words begin next (i + 1)
+    first_more z next b =
+        let q : spell (sign_in (sign_of (get_or words i 0))) ≡ entry_of (eqb i 0) (get_or words i 0) = rw (eq-eqb i 0 (omega arith)) refl in
+        one_more next (laid_as q (laid_word page next b))
+
+    pub next_more : 0 < i → (mid next : Page) → Laid page (32 ∷ []) mid → Laying mid next → Lining words begin next (i + 1)
     next_more z mid next a b =
-        let q : 32 ∷ spell s ≡ entry_of (eqb i 0) (get_or words i 0) = rw (ne_eqb i 0 (λ e. omega arith)) (ap (λ r. 32 ∷ r) spelled) in
-        one_more next (laid_as q (laid_join a b))
+        let q : 32 ∷ spell (sign_in (sign_of (get_or words i 0))) ≡ entry_of (eqb i 0) (get_or words i 0) = rw (ne_eqb i 0 (λ e. omega arith)) refl in
+        one_more next (laid_as q (laid_join a (laid_word mid next b)))
 
   -- every word is laid, and the byte 10 behind them
   module _ (h : length words ≤ i) (next : Page) (a : Laid page (10 ∷ []) next) where
@@ -108,7 +136,26 @@ module _ (words : List ℕ) (begin page : Page) (i : ℕ) (k : Lining words begi
         let e : text_of (signs_in words) ≡ k.done ++ (10 ∷ []) = k.whole ∙ ap (λ r. k.done ++ later_of (eqb i 0) r) (drop_of_length-le words h) in
         laid_as (sym e) (laid_join k.laid a)
 
-    pub all_measured : begin.at ≡ 0 → length words ≤ 1024 → measured document01 words ≡ Ok next.at
-    all_measured z f =
-        let n : next.at ≡ length (text_of (signs_in words)) = omega (arith, all_lined.place (omega (arith, text_length words f)), text_length words f) in
-        rw (le-ltb (front (writable document01) words) (length words) (omega (arith, k.good)), n)
+    pub all_counted : begin.at ≡ 0 → length words ≤ 1024 → next.at ≡ length (text_of (signs_in words))
+    all_counted z f = omega (arith, all_lined.place (omega (arith, text_length words f)), text_length words f)
+
+-- bytes that are written fit the buffer
+pub fits_room : (l : Limits) (ws : List ℕ) (room n : ℕ) → writing_of l ws room ≡ Ok n → n ≤ room
+unfolding writing_of
+fits_room l ws room n e = grind (arith, nat_tests)
+
+both_no : (x : Bool) {y : Bool} → y ≡ false → x && y ≡ false
+both_no true e = e
+both_no false e = refl
+
+-- the word of a sign can be written exactly where its numbers are small
+pub writable_sign : (s : Sign) → writable document01 (word_of s) ≡ small document01 s
+writable_sign s = go (fits (parts_of s).first) (fits (parts_of s).second) refl refl
+  where
+    none : (x y : Bool) → fits (parts_of s).first ≡ x → fits (parts_of s).second ≡ y → x && y ≡ false → both_small document01 (parts_of s).first (parts_of s).second ≡ false → writable document01 (word_of s) ≡ small document01 s
+    none x y p q e f = rw (p, q, e, f)
+
+    go : (x y : Bool) → fits (parts_of s).first ≡ x → fits (parts_of s).second ≡ y → writable document01 (word_of s) ≡ small document01 s
+    go true true p q = ap (small_in document01) (sign_again s (ltb-true (parts_of s).first 268435456 p) (ltb-true (parts_of s).second 268435456 q))
+    go true false p q = none true false p q refl (both_no (leb (parts_of s).first 999999) (lt-leb (parts_of s).second 999999 (omega (arith, ltb-false (parts_of s).second 268435456 q))))
+    go false y p q = none false y p q refl (rw (lt-leb (parts_of s).first 999999 (omega (arith, ltb-false (parts_of s).first 268435456 p))))

@@ -1,12 +1,13 @@
 -- How a sign is spelled: how many bytes that takes, and its letters and numbers.
 -- Assumes nothing.
-use Rattle.std.proofs.Common.{◌≡◌, refl, Bool, true, false, cond, ◌⊎◌, inl, inr, ℕ, zero, suc, ◌+◌, ◌-◌, ◌/◌, ◌%◌, ◌≤◌, [], ◌∷◌, ◌++◌, length, arith, length-append}
+use Rattle.std.proofs.Common.{◌≡◌, refl, ap, Bool, true, false, cond, ℕ, zero, suc, ◌+◌, ◌-◌, ◌/◌, ◌%◌, ◌<◌, ◌≤◌, [], ◌∷◌, ◌++◌, length, arith, length-append}
 use lib.Dec.{ltb}
 use Rattle.signs.specs.Words.{parts_of}
 use Rattle.signs.specs.Spellings.{spellings, letters_of}
 use Rattle.signs.specs.declared.sign.Jumped.TheVariants.{Dc, DcCoda, DcFine, Ds, DsCoda, DsFine}
 use Rattle.signs.specs.declared.sign.Sign.{Sign}
 use Rattle.signs.specs.declared.sign.Sign.TheVariants.{Block, Time, LeftRepeat, RightRepeat, OpenEnding, CloseEnding, Jump, Segno, Coda, ToCoda, Fine}
+use Rattle.words.specs.declared.Parts.{Parts}
 use Rattle.writing.specs.Spell.{digits_in, digits, pair_text, spell}
 
 few_digits : (f n : ℕ) → length (digits_in f n) ≤ f
@@ -43,26 +44,40 @@ spell_length ToCoda = omega arith
 spell_length Fine = omega arith
 
 -- a sign is spelled by its letters alone, or by them and its numbers
-pub letters_alone : (s : Sign) → ((k l : ℕ) → s ≡ Block k l → ⊥) → ((m n : ℕ) → s ≡ Time m n → ⊥) → letters_of ((parts_of s).kind - 1) ≡ spell s
+pub letters_alone : (s : Sign) (p : Parts) → p ≡ parts_of s → 2 < p.kind → letters_of (p.kind - 1) ≡ spell s
 unfolding spell spellings
-letters_alone (Block k l) b t = absurd (b k l refl)
-letters_alone (Time m n) b t = absurd (t m n refl)
-letters_alone LeftRepeat b t = refl
-letters_alone RightRepeat b t = refl
-letters_alone OpenEnding b t = refl
-letters_alone CloseEnding b t = refl
-letters_alone (Jump Dc) b t = refl
-letters_alone (Jump DcCoda) b t = refl
-letters_alone (Jump DcFine) b t = refl
-letters_alone (Jump Ds) b t = refl
-letters_alone (Jump DsCoda) b t = refl
-letters_alone (Jump DsFine) b t = refl
-letters_alone Segno b t = refl
-letters_alone Coda b t = refl
-letters_alone ToCoda b t = refl
-letters_alone Fine b t = refl
+letters_alone (Block k l) p e h = absurd (omega (arith, ap (λ x. x.kind) e))
+letters_alone (Time m n) p e h = absurd (omega (arith, ap (λ x. x.kind) e))
+letters_alone LeftRepeat p e h = rw e refl
+letters_alone RightRepeat p e h = rw e refl
+letters_alone OpenEnding p e h = rw e refl
+letters_alone CloseEnding p e h = rw e refl
+letters_alone (Jump Dc) p e h = rw e refl
+letters_alone (Jump DcCoda) p e h = rw e refl
+letters_alone (Jump DcFine) p e h = rw e refl
+letters_alone (Jump Ds) p e h = rw e refl
+letters_alone (Jump DsCoda) p e h = rw e refl
+letters_alone (Jump DsFine) p e h = rw e refl
+letters_alone Segno p e h = rw e refl
+letters_alone Coda p e h = rw e refl
+letters_alone ToCoda p e h = rw e refl
+letters_alone Fine p e h = rw e refl
 
-pub letters_numbered : (s : Sign) (k l : ℕ) → (s ≡ Block k l) ⊎ (s ≡ Time k l) → letters_of ((parts_of s).kind - 1) ++ pair_text k l ≡ spell s
+pub letters_numbered : (s : Sign) (p : Parts) → p ≡ parts_of s → p.kind ≤ 2 → letters_of (p.kind - 1) ++ pair_text p.first p.second ≡ spell s
 unfolding spell spellings
-letters_numbered s k l (inl e) = rw e
-letters_numbered s k l (inr e) = rw e
+letters_numbered (Block k l) p e h = rw e refl
+letters_numbered (Time m n) p e h = rw e refl
+letters_numbered LeftRepeat p e h = absurd (omega (arith, ap (λ x. x.kind) e))
+letters_numbered RightRepeat p e h = absurd (omega (arith, ap (λ x. x.kind) e))
+letters_numbered OpenEnding p e h = absurd (omega (arith, ap (λ x. x.kind) e))
+letters_numbered CloseEnding p e h = absurd (omega (arith, ap (λ x. x.kind) e))
+letters_numbered (Jump Dc) p e h = absurd (omega (arith, ap (λ x. x.kind) e))
+letters_numbered (Jump DcCoda) p e h = absurd (omega (arith, ap (λ x. x.kind) e))
+letters_numbered (Jump DcFine) p e h = absurd (omega (arith, ap (λ x. x.kind) e))
+letters_numbered (Jump Ds) p e h = absurd (omega (arith, ap (λ x. x.kind) e))
+letters_numbered (Jump DsCoda) p e h = absurd (omega (arith, ap (λ x. x.kind) e))
+letters_numbered (Jump DsFine) p e h = absurd (omega (arith, ap (λ x. x.kind) e))
+letters_numbered Segno p e h = absurd (omega (arith, ap (λ x. x.kind) e))
+letters_numbered Coda p e h = absurd (omega (arith, ap (λ x. x.kind) e))
+letters_numbered ToCoda p e h = absurd (omega (arith, ap (λ x. x.kind) e))
+letters_numbered Fine p e h = absurd (omega (arith, ap (λ x. x.kind) e))

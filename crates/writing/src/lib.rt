@@ -4,52 +4,80 @@
 
 mod page;
 
-ghost use Rattle.std.specs.Prelude.{◌≡◌, ◌≤◌, cond, T, length, IfOk, Ok};
+ghost use Rattle.std.specs.Prelude.{◌≡◌, ◌≤◌, T, length, not, position};
 ghost use Rattle.refusals.specs.Limits.{document01};
-ghost use Rattle.signs.specs.Words.{sign_of};
+ghost use Rattle.signs.specs.Text.{front};
 ghost use Rattle.writing.specs.Spell.{spell, text_of};
 ghost use Rattle.writing.specs.Laid.{Holds};
-ghost use Rattle.writing.specs.Writing.{small, writable, fitted, signs_in, measured, writing_of, content_of, writing_one, content_one, said_written, writing_said, writing_said_one};
+ghost use Rattle.writing.specs.Writing.{both_small, small, writable, fitted, signs_in, measured, writing_of, content_of, writing_one, content_one, said_written, writing_said, writing_said_one};
 
 use page::Page;
 use refusals::{BYTES, NUMBER, Refusal, SIGNS};
 use signs::Sign;
+use words::Parts;
 
-// Whether a sign's numbers are at most the largest that one carries.
+// Whether two numbers are at most the largest that a sign carries.
+fn both_small(a: u32, b: u32) -> bool
+    ensures { result ≡ both_small document01 a b }
+{
+    a <= NUMBER && b <= NUMBER
+}
+
+// Whether a sign's numbers are so.
 fn is_small(sign: &Sign) -> bool
     ensures { result ≡ small document01 sign.now }
 {
     match *sign {
-        Sign::Block(a, b) | Sign::Time(a, b) => a <= NUMBER && b <= NUMBER,
+        Sign::Block(a, b) | Sign::Time(a, b) => both_small(a, b),
         _ => true,
     }
 }
 
-// The sign of a word, if it can be written.
-fn writable(word: u64) -> Option<Sign>
-    ensures { result ≡ cond (writable document01 word) (sign_of word) None }
+// Whether a word is a sign that can be written.
+fn is_writable(word: u64) -> bool
+    ensures { result ≡ writable document01 word }
 {
-    Sign::try_from(word).ok().filter(is_small)
+    let Parts { first, second, .. } = Parts::from(word);
+    Sign::try_from(word).is_ok() && both_small(first, second)
 }
 
-// Lays signs, one space between them and one byte 10 behind, and answers how many bytes that takes; refuses the first that can't be written.
-fn lay_signs(words: &[u64], out: &mut [u8]) -> Result<usize, Refusal>
-    requires { length words.now ≤ document01.signs }
-    ensures answer { result ≡ measured document01 words.now }
-    ensures laid { IfOk result (λ n. Holds out.old (text_of (signs_in words.now)) out.new) }
+// Lays signs that can be written, one space between them and one byte 10 behind, and answers how many bytes that takes.
+#[inline(always)]
+fn lay_signs(words: &[u64], out: &mut [u8]) -> usize
+    requires few { length words.now ≤ document01.signs }
+    requires good { length words.now ≤ front (writable document01) words.now }
+    ensures answer { result ≡ length (text_of (signs_in words.now)) }
+    ensures laid { Holds out.old (text_of (signs_in words.now)) out.new }
 {
     let mut page = Page::new(out);
     for (i, word) in words.iter().enumerate() {
-        let Some(sign) = writable(*word) else {
-            return Err(Refusal::Unwritable(i as u64));
-        };
         if i > 0 {
             page.put(b" ");
         }
-        page.put_sign(sign);
+        page.put_sign(Parts::from(*word));
     }
     page.put(b"\n");
-    Ok(page.at)
+    page.at
+}
+
+// The first word that can't be written.
+fn first_unwritable(words: &[u64]) -> Option<usize>
+    ensures { result ≡ position (λ w. not (writable document01 w)) words.now }
+{
+    words.iter().position(|word| !is_writable(*word))
+}
+
+// How many bytes signs take; refuses the first that can't be written, before any is measured.
+#[tactic(auto, using(std::proofs::lemmas::Bool::Decides::nat_tests, crate::proofs::Lining::first_bad))]
+fn measure(words: &[u64]) -> Result<usize, Refusal>
+    requires { length words.now ≤ document01.signs }
+    ensures { result ≡ measured document01 words.now }
+{
+    if let Some(i) = first_unwritable(words) {
+        return Err(Refusal::Unwritable(i as u64));
+    }
+    // laid into a buffer without room for it, the text is only measured
+    Ok(lay_signs(words, &mut []))
 }
 
 // Lays one sign, and answers how many bytes that takes.
@@ -60,7 +88,7 @@ fn lay_sign(sign: Sign, out: &mut [u8]) -> usize
     ensures laid { Holds out.old (spell sign) out.new }
 {
     let mut page = Page::new(out);
-    page.put_sign(sign);
+    page.put_sign(Parts::from(sign));
     page.at
 }
 
@@ -87,10 +115,9 @@ pub fn write_signs(words: &[u64], out: &mut [u8]) -> Result<usize, Refusal>
     if words.len() > SIGNS {
         return Err(Refusal::TooManySigns);
     }
-    // laid into a buffer without room for it, the text is only measured
-    let needed = lay_signs(words, &mut [])?;
+    let needed = measure(words)?;
     fit(out.len(), needed)?;
-    lay_signs(words, out)
+    Ok(lay_signs(words, out))
 }
 
 // Writes one sign into a buffer, which a refusal leaves as it was; answers how many bytes there are.

@@ -1,7 +1,10 @@
--- past the text no number stands, and what passes the test are digits
-use Rattle.signs.proofs.Digits.{digits_all}
-use Rattle.signs.specs.Numbers.{digit}
+-- the place behind a number lies in the text
+use Rattle.std.proofs.Common.{sym, ◌∙◌, arith}
+use Rattle.std.proofs.lemmas.Grind.{common_steps}
+use Rattle.signs.proofs.Digits.{number_reach}
 use Rattle.signs.proofs.number.read_number.Goals as goal
 
-pub value_of-requires-clause-all : goal.value_of-requires-clause-all
-value_of-requires-clause-all c = digits_all c.args.text.now c.in_ok-digits.digits.now c.args.at c.past-end.result (c.past-end.ensures digit (λ b t p. p)) c.in_ok-digits.ensures.lookup.0.2
+pub overflow_add-result : goal.overflow_add-result
+overflow_add-result c =
+    let r = number_reach _ 0 c.in_ok-value.value c.in_ok-value.count (sym (c.read_front.ensures) ∙ c.in_ok-value.was) in
+    grind (arith, common_steps, r)
