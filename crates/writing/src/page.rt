@@ -34,7 +34,7 @@ impl<'a> Page<'a> {
         if self.at < self.out.len() {
             self.out[self.at] = byte;
         }
-        self.at = self.at.saturating_add(1);
+        self.at = self.at.wrapping_add(1);
     }
 
     // Puts bytes by a copy of a slice.
