@@ -15,7 +15,6 @@ use lib.Seq.{drop-cons}
 use Rattle.signs.specs.Text.{front, beyond, past}
 use Rattle.std.proofs.lemmas.List.{length-take-le, take_all}
 use Rattle.std.proofs.lemmas.Bool.{leb-false, lt-leb}
-use Rattle.std.proofs.lemmas.Option.{same_Some}
 use Rattle.signs.specs.Numbers.{digit, AreDigits, leading, decimal, numeral, number_of, number_at, closed, pair_at}
 use mathlib.Core.Logic.{◌⊎◌, inl, inr}
 use Rattle.signs.proofs.Gaps.{same_place, clash, both_true, front_le}
@@ -75,11 +74,15 @@ numeral_few ds e = leb-true (length ds) 6 (both_true (leb (length ds) 6) _ (both
 pub digits_end : (text : List ℕ) (at end : ℕ) → end ≡ beyond digit text at → end ≡ at + length (leading (drop at text))
 digits_end text at end e = e ∙ ap (λ n. at + n) (leading_count (drop at text))
 
--- past the text no number stands
-pub number_none : (text : List ℕ) (at end : ℕ) → end ≡ beyond digit text at → (end < at) ⊎ (length text < end) → None ≡ number_at text at
+-- where the text has ended no number stands
+pub number_past : (text : List ℕ) (at : ℕ) → length text ≤ at → None ≡ number_at text at
 unfolding numeral leading
+number_past text at h = rw (drop_of_length-le text {i = at} (omega arith)) refl
+
+-- nor past the text
+pub number_none : (text : List ℕ) (at end : ℕ) → end ≡ beyond digit text at → (end < at) ⊎ (length text < end) → None ≡ number_at text at
 number_none text at end e (inl h) = absurd (omega arith)
-number_none text at end e (inr h) = rw (drop_of_length-le text {i = at} (omega (arith, front_le digit (drop at text), length-drop at text))) refl
+number_none text at end e (inr h) = number_past text at (omega (arith, front_le digit (drop at text), length-drop at text))
 
 -- the digits at the front of the first n bytes are the first n of the digits
 leading_near : (n : ℕ) (l : List ℕ) → leading (take n l) ≡ take n (leading l)
@@ -151,26 +154,25 @@ number_reach text at k p e =
     go ds true n f = (leb-true 1 (length ds) (both_true (leb 1 (length ds)) _ n).0, same_place _ _ _ _ f)
     go ds false n f = clash (cc)
 
--- where the text has ended no number stands
-pub number_past : (text : List ℕ) (at : ℕ) → length text ≤ at → None ≡ number_at text at
-unfolding numeral leading
-number_past text at h = rw (drop_of_length-le text {i = at} (omega arith)) refl
+-- a number at the front of what follows a place, with the place behind it in the whole
+abbrev from_place : ℕ → Option (ℕ × ℕ) → Option (ℕ × ℕ)
+from_place at None = None
+from_place at (Some (v, n)) = Some (v, at + n)
 
 -- a number at a place is the one at the front of what follows
 module _ (text rest : List ℕ) (at : ℕ) (e : rest ≡ drop at text) where
-  pub number_absent : number_at rest 0 ≡ None → None ≡ number_at text at
-  number_absent f = go (leading (drop at text)) (numeral (leading (drop at text))) refl (ap (λ l. number_at l 0) (sym e) ∙ f)
+  number_there : from_place at (number_at rest 0) ≡ number_at text at
+  number_there = ap (λ l. from_place at (number_at l 0)) e ∙ go (leading (drop at text)) (numeral (leading (drop at text)))
     where
-      go : (ds : List ℕ) (t : Bool) → numeral ds ≡ t → cond {A = Option (ℕ × ℕ)} t (Some (decimal 0 ds, 0 + length ds)) None ≡ None → None ≡ cond {A = Option (ℕ × ℕ)} t (Some (decimal 0 ds, at + length ds)) None
-      go ds true n f = clash (cc)
-      go ds false n f = refl
+      go : (ds : List ℕ) (t : Bool) → from_place at (cond t (Some (decimal 0 ds, 0 + length ds)) None) ≡ cond t (Some (decimal 0 ds, at + length ds)) None
+      go ds true = ap (λ n. Some (decimal 0 ds, at + n)) (zero-add (length ds))
+      go ds false = refl
+
+  pub number_absent : number_at rest 0 ≡ None → None ≡ number_at text at
+  number_absent f = ap (from_place at) (sym f) ∙ number_there
 
   pub number_from : (v n : ℕ) → number_at rest 0 ≡ Some (v, n) → Some (v, at + n) ≡ number_at text at
-  number_from v n f = go (leading (drop at text)) (numeral (leading (drop at text))) refl (ap (λ l. number_at l 0) (sym e) ∙ f)
-    where
-      go : (ds : List ℕ) (t : Bool) → numeral ds ≡ t → cond {A = Option (ℕ × ℕ)} t (Some (decimal 0 ds, 0 + length ds)) None ≡ Some (v, n) → Some (v, at + n) ≡ cond {A = Option (ℕ × ℕ)} t (Some (decimal 0 ds, at + length ds)) None
-      go ds true m f = ap Some (sym (rw (← zero-add (length ds)) (ap (λ r. (r.0, at + r.1)) (same_Some _ _ f))))
-      go ds false m f = clash (cc)
+  number_from v n f = ap (from_place at) (sym f) ∙ number_there
 
 -- a pair, by what stands at its four places
 module _ (text : List ℕ) (at : ℕ) where
